@@ -28,7 +28,7 @@ STORE   equ     0x1000                  ; the segment of the cells up to 32767; 
 GIVEN   equ     0x3000                  ; the segment of the input
 SECTOR  equ     0x8600                  ; where a sector is read to
 COM     equ     0x3F8
-STACK   equ     0x7C00
+STACK   equ     0x7000                  ; below this code's page: writing beside code is slow in an emulator
 
 ; Registers while a program runs: DI = A, DX = B, SI = C, BP = P; BX = D, AX and CX are free.
 

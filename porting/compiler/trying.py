@@ -10,7 +10,8 @@ import tempfile
 
 HERE = os.path.dirname(os.path.abspath(__file__))
 TOP = os.path.dirname(os.path.dirname(HERE))
-FILES = ["main", "store", "lexer", "parser", "scopes", "checker", "selector", "writer", "generator", "certificate"]
+FILES = ["main", "driver", "store", "lexer", "parser", "scopes", "checker", "selector", "writer", "generator", "certificate"]
+BOOT_FILES = ["boot", "editor", "streams", "loader"]
 STEPS = "2000M"
 MOST_STREAMS = 40       # the most streams that are connected for one file
 
@@ -21,9 +22,9 @@ def program():
     return os.path.abspath(os.environ.get("BCPL") or called([os.path.join(TOP, "bcpl"), "--which"])[1].decode().strip())
 
 
-def called(words, folder=None):
+def called(words, folder=None, typed=b""):
     """The status, standard output and standard error of a command, as bytes."""
-    done = subprocess.run(words, cwd=folder, stdin=subprocess.DEVNULL, stdout=subprocess.PIPE, stderr=subprocess.PIPE, timeout=600, check=False)
+    done = subprocess.run(words, cwd=folder, input=typed, stdout=subprocess.PIPE, stderr=subprocess.PIPE, timeout=600, check=False)
     return done.returncode, done.stdout, done.stderr
 
 

@@ -5,8 +5,8 @@ import * as fs from "node:fs";
 import { parseArgs } from "node:util";
 import { DeviceFault, Machine, Refusal, Streams, linkTexts } from "./intcode.mjs";
 
-const HELP = `run.mjs run --steps N [--in NAME=PATH].. [--to NAME=PATH].. TEXT..    links texts behind the primitives and runs them
-run.mjs asm TEXT..                                                    prints the words of the store up to the stack base
+const HELP = `run.mjs run --steps N [--in NAME=PATH].. [--to NAME=PATH].. [--files DIR] TEXT..    links texts behind the primitives and runs them
+run.mjs asm TEXT..                                                                  prints the words of the store up to the stack base
 
 N is the most instructions that are carried out. Input 1 is standard input, under the name SYSIN; output 1 is standard output, under
 the name SYSPRINT; the files of --in and --to have the numbers from 2 on, in their order. The status is 0 where all was done, 1 where
@@ -112,12 +112,50 @@ function binding(word) {
   return { name: word.slice(0, at), path: word.slice(at + 1) };
 }
 
+// The level disk, which may be left out: streams that are found in a folder.
+
+/** The path of a name in the folder; undefined where it would leave it, or where something else than a file has it. */
+function pathOf(folder, name) {
+  const word = Buffer.from(name).toString("latin1");
+  if (!/^[A-Za-z0-9_-][A-Za-z0-9._-]*$/.test(word)) return undefined;
+  const path = `${folder}/${word}`;
+  const found = fs.lstatSync(path, { throwIfNoEntry: false });
+  return !found || found.isFile() ? path : undefined;
+}
+
+/** Lets a table find the files of the folder too. `other` is the table of the other side, and `open` opens a path. */
+function addFolder(table, other, folder, open) {
+  const given = table.streams.length;
+  const find = table.findStream.bind(table);
+  const isSame = (name, device) => Buffer.compare(Buffer.from(name), device.name) === 0;
+  table.hasOpenFile = (name) => table.streams.slice(given).some(({ device, hasEnded }) => !hasEnded && isSame(name, device));
+  table.findStream = (name) => {
+    const number = find(name);
+    if ((number > 0 && number <= given) || table.hasOpenFile(name)) return number;
+    const path = pathOf(folder, name);
+    if (!path || other.hasOpenFile(name)) return 0;
+    try {
+      const stream = { device: open(name, path), hasEnded: false, isAtEnd: false };
+      if (number === 0) return table.streams.push(stream);
+      table.streams[number - 1] = stream; // it was ended: the same number, from the start
+      return number;
+    } catch {
+      return 0;
+    }
+  };
+}
+
 /** Runs texts, and says how the run ended. */
-function run(texts, steps, inputs, outputs) {
+function run(texts, steps, inputs, outputs, folder) {
   const image = linkTexts(texts.map(contents));
+  if (folder !== undefined && !fs.statSync(folder, { throwIfNoEntry: false })?.isDirectory()) throw new Refusal(`file ${folder}`);
   const sources = inputs.map(({ name, path }) => inputOf(name, withFile(path, () => fs.openSync(path, "r"))));
   const sinks = outputs.map(({ name, path }) => outputOf(name, withFile(path, () => fs.openSync(path, "w"))));
   const streams = new Streams([inputOf("SYSIN", 0), ...sources], [outputOf("SYSPRINT", 1), ...sinks]);
+  if (folder !== undefined) {
+    addFolder(streams.inputs, streams.outputs, folder, (name, path) => inputOf(name, fs.openSync(path, "r")));
+    addFolder(streams.outputs, streams.inputs, folder, (name, path) => outputOf(name, fs.openSync(path, "w")));
+  }
   const end = new Machine(image, streams).run(steps);
   const closed = streams.close();
   return end === "Finished" && !closed ? "Device" : end;
@@ -155,14 +193,14 @@ function command([name, ...words]) {
   }
   if (name !== "run" && name !== "asm") throw new BadWords("bcpl: the words begin with run or asm; --help tells more");
   const many = { type: "string", multiple: true, default: [] };
-  const options = name === "run" ? { steps: many, in: many, to: many } : {};
+  const options = name === "run" ? { steps: many, in: many, to: many, files: { type: "string" } } : {};
   const { values, positionals: texts } = parsed(words, options);
   if (texts.length === 0) throw new BadWords("bcpl: a text is wanted");
   if (name === "asm") {
     assemble(texts);
     return 0;
   }
-  const end = run(texts, budget(values.steps), values.in.map(binding), values.to.map(binding));
+  const end = run(texts, budget(values.steps), values.in.map(binding), values.to.map(binding), values.files);
   if (end === "Finished") return 0;
   complain(`bcpl: ended ${end}`);
   return 2;

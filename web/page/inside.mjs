@@ -109,8 +109,7 @@ export class Inside {
 /** A report in the colours that the user has chosen for the page. By itself it follows the system's. */
 function inColours(report, theme) {
   if (!theme) return report;
-  const condition = theme === "dark" ? "screen" : "not all";
-  return report.replace("color-scheme: light dark", `color-scheme: ${theme}`).replace("@media (prefers-color-scheme: dark)", `@media ${condition}`);
+  return report.replace("color-scheme: light dark", `color-scheme: ${theme}`);
 }
 
 /** The rows of a listing, each with the line of the source that it belongs to. */

@@ -1,5 +1,6 @@
 // Puts the page together: the files, the editor, the compiler and the panels.
 import { isOneFile, loadData, loadModule, startWorker } from "./assets.mjs";
+import { Boot } from "./boot.mjs";
 import { Certificate } from "./certificate.mjs";
 import { Compiler, isSupported } from "./compiler.mjs";
 import { Convert } from "./convert.mjs";
@@ -46,6 +47,7 @@ class App {
     this.certificate = new Certificate(this);
     this.convert = new Convert(this);
     this.learn = new Learn(this, () => loadData("pages.json"));
+    this.boot = new Boot(this, () => loadData("boot.json"));
     this.find = new Find(this.editor);
     this.format = new Format(this);
     this.kept = new Kept(this);
@@ -211,6 +213,7 @@ class App {
   /** Draws the chosen panel again, after a check or a change of the file. */
   refresh() {
     if (this.panel === "learn") this.learn.open();
+    if (this.panel === "boot") this.boot.open();
     if (!this.mayCompile()) return;
     if (this.panel === "inside") this.inside.show();
     if (this.panel === "explain") this.inside.showReport();

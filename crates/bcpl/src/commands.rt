@@ -8,7 +8,7 @@ use crate::noted_output::NotedOutput;
 use bcpl_cli::{
     ArgumentError, AssembleOrder, BuildOrder, CheckOrder, Clean, ConvertOrder, DebugOrder,
     Expected, ExplainOrder, Failure, FormatOrder, GoOrder, InterpretOrder, ListOrder, Order,
-    Places, RunOrder, ServeOrder, ShowOrder, TameOrder, parse_arguments, places_in,
+    Places, RunOrder, ServeOrder, ShowOrder, TameOrder, check_stack, parse_arguments, places_in,
 };
 use bcpl_convert::convert_file;
 use bcpl_inspect::{Served, check_certificate, format_files, list, serve, show};
@@ -253,9 +253,13 @@ fn serve_command<F: Files, R: Read + Drop, O: Write + Drop, E: Write + Drop>(
     if terminals.input && terminals.err {
         print_lines(SERVING, &mut err);
     }
-    match serve(rt, alloc, order, input, out) {
+    let mut out = NotedOutput::new(out);
+    match serve(rt, alloc, order, input, &mut out) {
         Ok(Served::Properly) => 0,
-        Ok(Served::CutOff) => 1,
+        Ok(Served::CutOff) => match out.checked(alloc, Ok(())) {
+            Ok(()) => 1,
+            failed => status(failed, explains, &mut err),
+        },
         Err(failure) => status(Err(failure), explains, &mut err),
     }
 }
@@ -307,11 +311,12 @@ fn convert_command<F: Files, R: Read + Drop, O: Write + Drop, E: Write + Drop>(
 ) -> u8
     ensures { result ≤ 3 }
 {
-    let mut out = NotedOutput::new(&mut console.out);
+    let is_terminal = console.terminals.out;
+    let mut out = NotedOutput::new(Clean::new(&mut console.out, is_terminal));
     let done = if order.is_project {
         convert_project(rt, alloc, order, &mut out)
     } else {
-        convert_file(rt, alloc, order, &mut out)
+        convert_file(rt, alloc, order, (&mut out, is_terminal))
     };
     let has_reader = out.has_reader();
     // Why a project is refused is never plain from the first line.
@@ -454,6 +459,26 @@ fn follow<F: Files, R: Read + Drop, O: Write + Drop, E: Write + Drop>(
     }
 }
 
+/// Runs the command of this order, unless the stack is too small or standard input, if it is among the files, can't be
+/// read.
+fn follow_if_possible<F: Files, R: Read + Drop, O: Write + Drop, E: Write + Drop>(
+    rt: &F,
+    alloc: Global,
+    mut order: Order<'_>,
+    mut console: Console<R, O, E>,
+) -> u8
+    ensures { result ≤ 3 }
+{
+    let ready = match check_stack(rt, alloc, order.stack()) {
+        Ok(()) => order.read_standard_input(alloc, &mut console.input),
+        Err(failure) => Err(failure),
+    };
+    match ready {
+        Ok(()) => follow(rt, alloc, &order, console),
+        Err(failure) => status(Err(failure), console.explains, &mut console.err),
+    }
+}
+
 /// Reports an invalid command line, with a guess at what was meant, and returns the exit status.
 fn refuse<F: Files, R: Read + Drop, O: Write + Drop, E: Write + Drop>(
     rt: &F,
@@ -487,8 +512,8 @@ pub fn command_on<'a, F: Files, R: Read + Drop, O: Write + Drop, E: Write + Drop
     let setting = standard.setting;
     match parse_arguments(alloc, words, setting) {
         Ok(order) => {
-            let places = order.places();
-            follow(rt, alloc, &order, Console::new(alloc, standard, places))
+            let console = Console::new(alloc, standard, order.places());
+            follow_if_possible(rt, alloc, order, console)
         }
         Err(error) => {
             let places = places_in(words, setting);

@@ -11,8 +11,12 @@ use bcpl_sources::readable;
 use std::alloc::Global;
 use std::rt::Files;
 
-/// The hint on the file with this path, if it can be read and does not look as expected.
+/// The hint on the file with this path, if it can be read and does not look as expected. Standard input, which `-` may
+/// mean, was read already.
 fn hint_of<F: Files>(rt: &F, alloc: Global, expected: Expected, path: &str) -> Option<String> {
+    if path == "-" {
+        return None;
+    }
     let bytes = readable(rt, alloc, path)?;
     hint(alloc, expected, path, bytes.as_slice()).ok()?
 }

@@ -146,8 +146,18 @@ pub fn advised(
     let Ok(tokens) = lex(alloc, sources, main) else {
         return Ok(message);
     };
-    match token_advice(tokens.as_slice(), &message, error) {
-        Some(advice) => with_advice(alloc, tokens.as_slice(), message, advice),
+    advised_on_tokens(alloc, tokens.as_slice(), error, message)
+}
+
+/// The same for the tokens of the main, which the parser or the scopes refused.
+pub fn advised_on_tokens(
+    alloc: Global,
+    tokens: &[Token<'_>],
+    error: &BuildError,
+    message: Message,
+) -> Result<Message, Memory> {
+    match token_advice(tokens, &message, error) {
+        Some(advice) => with_advice(alloc, tokens, message, advice),
         None => Ok(message),
     }
 }

@@ -4,7 +4,7 @@
 //! isn't plain what was meant, the search ends.
 
 use crate::advice::advised;
-use crate::characters::line_end;
+use crate::characters::{line_end, line_start};
 use crate::further::{FurtherFault, further_faults, with_text};
 use bc_build::{BuildError, LexError};
 use bc_lex::{Source, lex};
@@ -101,9 +101,8 @@ fn mend_escape(text: &mut [u8], at: usize) -> bool {
 fn open_before(text: &[u8], at: usize) -> usize {
     let mut open: usize = 0;
     let mut last = b'\n';
-    for byte in text.get(..at).unwrap_or(b"") {
+    for byte in text.get(line_start(text, at)..at).unwrap_or(b"") {
         match *byte {
-            b'\n' => open = 0,
             b'(' if last != b'$' => open = open.saturating_add(1),
             b')' if last != b'$' => open = open.saturating_sub(1),
             _ => {}
@@ -245,36 +244,116 @@ fn faults_of_parser(
     if main >= sources.len() {
         return Ok(all);
     }
-    let Ok(tokens) = lex(alloc, sources, main) else {
-        return Ok(all);
+    let (error, refused) = match lex(alloc, sources, main) {
+        Ok(tokens) => match parse(alloc, tokens.as_slice()) {
+            Err(ParseError::Expected(at)) => {
+                (BuildError::Parse(main, ParseError::Expected(at)), Some(at))
+            }
+            _ => return Ok(all),
+        },
+        Err(fault) => (BuildError::Lex(main, fault), None),
     };
-    let Err(ParseError::Expected(at)) = parse(alloc, tokens.as_slice()) else {
-        return Ok(all);
-    };
-    let error = BuildError::Parse(main, ParseError::Expected(at));
     if let Some(fault) = explained(alloc, sources, main, error)? {
         all.push(fault)?;
     }
-    for fault in further_faults(alloc, sources, main, at, most)? {
-        all.push(fault)?;
+    if let Some(at) = refused {
+        for fault in further_faults(alloc, sources, main, at, most)? {
+            all.push(fault)?;
+        }
     }
     Ok(all)
 }
 
-/// What is found when a main with this text is read.
+/// The offset of a fault that can be mended.
+fn place_of(fault: LexError) -> usize {
+    match fault {
+        LexError::NumberTooLarge(_, at)
+        | LexError::BadEscape(_, at)
+        | LexError::Unterminated(_, at)
+        | LexError::BadCharacter(_, at) => at,
+        _ => 0,
+    }
+}
+
+/// Where the lexer goes on after a mended fault at an offset: at the beginning of its line, if the lexer is between two
+/// lexemes there, else where it began before.
+fn restart(
+    alloc: Global,
+    sources: &[Source<'_>],
+    main: usize,
+    from: usize,
+    at: usize,
+) -> Result<usize, Memory> {
+    let text: &[u8] = match sources.get(main) {
+        Some(source) => source.text,
+        None => b"",
+    };
+    let line = line_start(text, at);
+    let before = with_text(alloc, sources, main, text.get(from..line).unwrap_or(b""))?;
+    if line <= from || main >= before.len() {
+        return Ok(from);
+    }
+    Ok(match lex(alloc, before.as_slice(), main) {
+        Ok(_) => line,
+        Err(_) => from,
+    })
+}
+
+/// A fault of a main, in which this many bytes come before what was read.
+fn moved(fault: LexError, main: usize, from: usize) -> LexError {
+    match fault {
+        LexError::NumberTooLarge(file, at) if file == main => {
+            LexError::NumberTooLarge(file, at.saturating_add(from))
+        }
+        LexError::BadEscape(file, at) if file == main => {
+            LexError::BadEscape(file, at.saturating_add(from))
+        }
+        LexError::Unterminated(file, at) if file == main => {
+            LexError::Unterminated(file, at.saturating_add(from))
+        }
+        LexError::BadCharacter(file, at) if file == main => {
+            LexError::BadCharacter(file, at.saturating_add(from))
+        }
+        LexError::StringTooLong(file, at) if file == main => {
+            LexError::StringTooLong(file, at.saturating_add(from))
+        }
+        LexError::GetMissing(file, at) if file == main => {
+            LexError::GetMissing(file, at.saturating_add(from))
+        }
+        _ => fault,
+    }
+}
+
+/// The fault that the lexer finds in a main from an offset on.
+fn fault_from(
+    alloc: Global,
+    sources: &[Source<'_>],
+    main: usize,
+    from: usize,
+) -> Result<Option<LexError>, Memory> {
+    let text: &[u8] = match sources.get(main) {
+        Some(source) => source.text.get(from..).unwrap_or(b""),
+        None => b"",
+    };
+    let rest = with_text(alloc, sources, main, text)?;
+    if main >= rest.len() {
+        return Ok(None);
+    }
+    Ok(match lex(alloc, rest.as_slice(), main) {
+        Ok(_) => None,
+        Err(fault) => Some(moved(fault, main, from)),
+    })
+}
+
+/// What is found when a main is read from an offset on.
 fn next_in(
     alloc: Global,
     sources: &[Source<'_>],
     main: usize,
-    text: &[u8],
+    from: usize,
     most: usize,
 ) -> Result<Next, Memory> {
-    let changed = with_text(alloc, sources, main, text)?;
-    let sources = changed.as_slice();
-    if main >= sources.len() {
-        return Ok(Next::Rest(Vec::new(alloc)));
-    }
-    let Err(fault) = lex(alloc, sources, main) else {
+    let Some(fault) = fault_from(alloc, sources, main, from)? else {
         return Ok(Next::Rest(faults_of_parser(alloc, sources, main, most)?));
     };
     let error = BuildError::Lex(main, fault);
@@ -282,6 +361,22 @@ fn next_in(
         Some(further) => Next::Lexical(fault, further),
         None => Next::Rest(Vec::new(alloc)),
     })
+}
+
+/// Where a main with this text is read on, and what is found there. `reading` is where it was read from before, the place of
+/// the mended fault, and the most that is found.
+fn next_after(
+    alloc: Global,
+    sources: &[Source<'_>],
+    main: usize,
+    text: &[u8],
+    reading: (usize, usize, usize),
+) -> Result<(usize, Next), Memory> {
+    let (from, at, most) = reading;
+    let mended = with_text(alloc, sources, main, text)?;
+    let from = restart(alloc, mended.as_slice(), main, from, at)?;
+    let next = next_in(alloc, mended.as_slice(), main, from, most)?;
+    Ok((from, next))
 }
 
 /// The further faults of a main that the lexer refused with this fault, `most` and one at most. Returns `Memory` if an
@@ -299,11 +394,15 @@ pub fn faults_after_lexical(
     };
     let mut text = Vec::from_slice(alloc, source.text)?;
     let mut fault = fault;
+    let mut from = 0;
     for count in 0..most {
         if !mend(text.as_mut_slice(), main, fault) {
             break;
         }
-        match next_in(alloc, sources, main, text.as_slice(), most - count)? {
+        let reading = (from, place_of(fault), most - count);
+        let (place, next) = next_after(alloc, sources, main, text.as_slice(), reading)?;
+        from = place;
+        match next {
             Next::Lexical(next, further) => {
                 all.push(further)?;
                 fault = next;

@@ -7,7 +7,7 @@ use crate::further::{FurtherFault, with_text};
 use crate::mending::{Mending, Tokens, mend};
 use bc_build::{BuildError, ScopeFault};
 use bc_lex::{Source, lex};
-use bc_lex_tokens::{Symbol, Token};
+use bc_lex_tokens::{Symbol, Token, TokenKind};
 use bc_parse::parse;
 use bc_scope::{ScopeError, resolve};
 use bc_scope_places::{Span as TokenSpan, fault_place};
@@ -15,6 +15,7 @@ use bc_word::Memory;
 use bcpl_index::unknown_names;
 use bcpl_messages::{is_at, symbol_at};
 use bcpl_places::Span;
+use indexmap::IndexSet;
 use std::alloc::Global;
 
 /// At most this many times the text is changed and checked. Each time takes as long as parsing the main.
@@ -233,6 +234,38 @@ fn text_at<'s>(sources: &[Source<'s>], place: Span) -> &'s [u8] {
     }
 }
 
+/// The changes of the uses of these names in a main, except those within another one's change.
+fn changes_of(
+    alloc: Global,
+    sources: &[Source<'_>],
+    main: usize,
+    names: &IndexSet<&[u8]>,
+) -> Result<Vec<Mending>, Memory> {
+    let mut changes = Vec::new(alloc);
+    if main >= sources.len() {
+        return Ok(changes);
+    }
+    let Ok(tokens) = lex(alloc, sources, main) else {
+        return Ok(changes);
+    };
+    let all = Tokens {
+        all: tokens.as_slice(),
+        main,
+    };
+    let mut end: usize = 0;
+    for (at, token) in tokens.iter().enumerate() {
+        if let TokenKind::Name(name) = token.kind
+            && names.contains(name)
+            && let Some(mending) = all.used(at)
+            && mending.start >= end
+        {
+            end = mending.end;
+            changes.push(mending)?;
+        }
+    }
+    Ok(changes)
+}
+
 /// A search for faults.
 #[derive(Drop)]
 struct Search<'a, 's> {
@@ -335,6 +368,19 @@ impl Search<'_, '_> {
         Ok(())
     }
 
+    /// Changes the uses of the names that are listed, all at once. One within another's change stays.
+    fn change_listed(&mut self) -> Result<(), Memory> {
+        let mut names: IndexSet<&[u8]> = IndexSet::new(self.alloc);
+        for name in self.told.as_slice() {
+            names.insert(text_at(self.sources, *name))?;
+        }
+        let changes = changes_of(self.alloc, self.sources, self.main, &names)?;
+        for mending in changes {
+            self.change(Some(mending))?;
+        }
+        Ok(())
+    }
+
     /// Changes the text. Returns whether the search goes on.
     fn change(&mut self, mending: Option<Mending>) -> Result<bool, Memory> {
         let Some(mending) = mending else {
@@ -365,10 +411,14 @@ impl Search<'_, '_> {
             return Ok(false);
         };
         self.note(&found)?;
-        if let ScopeFault::Undeclared(_) = &found.fault {
-            self.note_listed()?;
+        match &found.fault {
+            ScopeFault::Undeclared(_) => {
+                self.note_listed()?;
+                self.change_listed()?;
+                Ok(true)
+            }
+            _ => self.change(found.mending),
         }
-        self.change(found.mending)
     }
 
     /// Finds the next fault. Returns whether the search goes on.

@@ -1,4 +1,4 @@
-//! Removes a faulty line from a text by writing blanks over its tokens, so that all other places stay as they are.
+//! The line that a fault is blamed on, and whether the rest can be read without it.
 
 use bc_lex_tokens::{Symbol, Token};
 use bcpl_messages::{is_at, symbol_at};
@@ -197,14 +197,6 @@ pub fn is_removable(tokens: &[Token<'_>], faulty: Faulty, main: usize) -> bool {
         }
     }
     faulty.from < faulty.to
-}
-
-/// Writes a semicolon over the first byte of this stretch of a text, and blanks over the others.
-pub fn separate(text: &mut [u8], start: usize, end: usize) {
-    blank(text, start, end);
-    if let Some(byte) = text.get_mut(start) {
-        *byte = b';';
-    }
 }
 
 /// Writes blanks over this stretch of a text. Line breaks stay.

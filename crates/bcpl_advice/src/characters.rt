@@ -2,12 +2,13 @@
 
 /// What is after the last line feed or semicolon of a text, and after a section bracket that begins the line.
 pub fn line_end(text: &[u8]) -> &[u8] {
-    let mut start: usize = 0;
-    for (at, byte) in text.iter().enumerate() {
-        if *byte == b'\n' || *byte == b';' {
-            start = at.saturating_add(1);
-        }
-    }
+    let end = text
+        .iter()
+        .rposition(|byte| *byte == b'\n' || *byte == b';');
+    let start = match end {
+        Some(at) => at.saturating_add(1),
+        None => 0,
+    };
     let line = match text.get(start..) {
         Some(line) => line.trim_ascii_start(),
         None => b"",
@@ -15,6 +16,15 @@ pub fn line_end(text: &[u8]) -> &[u8] {
     match line.strip_prefix(b"$(") {
         Some(rest) => rest.trim_ascii_start(),
         None => line,
+    }
+}
+
+/// The offset at which the line of another offset begins.
+pub fn line_start(text: &[u8], at: usize) -> usize {
+    let before = text.get(..at).unwrap_or(b"");
+    match before.iter().rposition(|byte| *byte == b'\n') {
+        Some(end) => end.saturating_add(1),
+        None => 0,
     }
 }
 

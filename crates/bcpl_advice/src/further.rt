@@ -1,17 +1,16 @@
-//! The further faults of a main that the parser refused. The line of the first one is replaced by blanks and the rest is
+//! The further faults of a main that the parser refused. The tokens of the line of the first one are removed and the rest is
 //! parsed again, and so on. Where other lines depend on a faulty one, the search ends: a fault that only follows from
 //! another is worse than none.
 
-use crate::advice::advised;
-use crate::blanking::{
-    Faulty, blamed_on, blank, is_removable, is_reserved_name, is_second, open_tests, separate,
-};
+use crate::advice::advised_on_tokens;
+use crate::blanking::{Faulty, blamed_on, is_removable, is_reserved_name, is_second, open_tests};
+use crate::window::Window;
 use bc_build::BuildError;
 use bc_lex::{Source, lex};
 use bc_lex_tokens::{Symbol, Token};
-use bc_parse::{ParseError, parse};
+use bc_parse::ParseError;
 use bc_word::Memory;
-use bcpl_messages::{Message, is_at, message_of};
+use bcpl_messages::{Message, is_at, message_on_tokens};
 use std::alloc::Global;
 
 /// A further fault, and what is said about it.
@@ -23,9 +22,11 @@ pub struct FurtherFault {
     pub message: Message,
 }
 
-/// What a fault is blamed on, in bytes of the text.
+/// What a fault is blamed on.
 #[derive(Clone, Copy)]
 struct Blamed {
+    faulty: Faulty,
+    /// Where it begins and ends, in bytes of the text.
     start: usize,
     end: usize,
     /// Where the refused token begins, in the line or at the start of the next.
@@ -45,15 +46,11 @@ struct Refused {
     tests: usize,
 }
 
-/// What was found when a text was parsed.
-#[derive(Drop)]
-enum Found {
-    /// A fault at this token, with what is said about it.
-    Fault(usize, FurtherFault),
-    /// A fault at this token, of which nothing is said.
-    Skipped(usize),
-    /// Nothing more that doesn't follow from what was removed.
-    Nothing,
+/// A main and the sources that it can get.
+#[derive(Clone, Copy)]
+struct Main<'a, 's> {
+    sources: &'a [Source<'s>],
+    index: usize,
 }
 
 /// The sources, with another text for a main.
@@ -91,6 +88,7 @@ fn blamed_at(tokens: &[Token<'_>], refused: Refused) -> Option<Blamed> {
     let faulty = blamed_on(tokens, refused.at);
     let end = tokens.get(faulty.to.checked_sub(1)?)?.end;
     Some(Blamed {
+        faulty,
         start: tokens.get(faulty.from)?.start,
         end,
         refused: match tokens.get(refused.at) {
@@ -111,24 +109,6 @@ fn removable_at(tokens: &[Token<'_>], main: usize, refused: Refused) -> Option<B
     } else {
         None
     }
-}
-
-/// What the fault at a token of a main with this text is blamed on; `None` if other lines depend on it.
-fn blamed_in(
-    alloc: Global,
-    sources: &[Source<'_>],
-    main: usize,
-    text: &[u8],
-    refused: Refused,
-) -> Result<Option<Blamed>, Memory> {
-    let changed = with_text(alloc, sources, main, text)?;
-    if main >= changed.len() {
-        return Ok(None);
-    }
-    Ok(match lex(alloc, changed.as_slice(), main) {
-        Ok(tokens) => removable_at(tokens.as_slice(), main, refused),
-        Err(_) => None,
-    })
 }
 
 /// Whether the fault at a token of a main is blamed on something after the last fault.
@@ -160,50 +140,106 @@ fn is_misleading(message: &Message, blamed: Blamed, last: Blamed) -> bool {
     blamed.start <= last.refused && !is_inside && message.notes.is_empty()
 }
 
-/// The fault of a main with this text, and what is said about it. The last fault before it was blamed on `last`.
-fn found_in(
+/// What is said about a fault at a token of a main; `None` if nothing is. `number` is the token's among all that weren't
+/// removed.
+fn said_at(
     alloc: Global,
-    sources: &[Source<'_>],
-    main: usize,
-    text: &[u8],
-    last: Blamed,
-) -> Result<Found, Memory> {
-    let changed = with_text(alloc, sources, main, text)?;
-    let sources = changed.as_slice();
-    if main >= sources.len() {
-        return Ok(Found::Nothing);
-    }
-    let Ok(tokens) = lex(alloc, sources, main) else {
-        return Ok(Found::Nothing);
+    main: Main<'_, '_>,
+    tokens: &[Token<'_>],
+    at: usize,
+    number: usize,
+) -> Result<Option<FurtherFault>, Memory> {
+    let fault = ParseError::Expected(at);
+    let found = message_on_tokens(alloc, main.sources, main.index, tokens, fault)?;
+    let Some(message) = found else {
+        return Ok(None);
     };
-    let Err(ParseError::Expected(at)) = parse(alloc, tokens.as_slice()) else {
-        return Ok(Found::Nothing);
-    };
-    let Some(blamed) = blamed_after(tokens.as_slice(), main, at, last) else {
-        return Ok(Found::Nothing);
-    };
-    if last.tests > 0 && is_at(tokens.as_slice(), at, Symbol::Else) {
-        return Ok(Found::Skipped(at));
-    }
-    let error = BuildError::Parse(main, ParseError::Expected(at));
-    let Some(message) = message_of(alloc, sources, &[main], &error)? else {
-        return Ok(Found::Nothing);
-    };
-    let message = advised(alloc, sources, &error, message)?;
-    Ok(if is_misleading(&message, blamed, last) {
-        Found::Skipped(at)
-    } else {
-        Found::Fault(at, FurtherFault { error, message })
-    })
+    let error = BuildError::Parse(main.index, fault);
+    let message = advised_on_tokens(alloc, tokens, &error, message)?;
+    let error = BuildError::Parse(main.index, ParseError::Expected(number));
+    Ok(Some(FurtherFault { error, message }))
 }
 
-/// Removes what a fault is blamed on.
-fn remove(text: &mut [u8], blamed: Blamed) {
-    if blamed.is_second {
-        separate(text, blamed.start, blamed.end);
-    } else {
-        blank(text, blamed.start, blamed.end);
+/// A search for faults.
+#[derive(Drop)]
+struct Search<'a, 's> {
+    alloc: Global,
+    main: Main<'a, 's>,
+    window: Window<'a, 's>,
+    /// The refused token, and what was removed before it.
+    refused: Refused,
+    all: Vec<FurtherFault>,
+}
+
+impl Search<'_, '_> {
+    /// Removes what the last fault is blamed on. `None` if other lines depend on it.
+    fn remove(&mut self) -> Result<Option<Blamed>, Memory> {
+        let found = removable_at(self.window.tokens(), self.main.index, self.refused);
+        let Some(last) = found else {
+            return Ok(None);
+        };
+        let Faulty { from, to } = last.faulty;
+        self.window.remove(self.alloc, from, to, last.is_second)?;
+        self.refused = Refused {
+            at: from,
+            tests: last.tests,
+        };
+        Ok(Some(last))
     }
+
+    /// Adds the fault at a token, unless it is misleading. Returns whether the search goes on.
+    fn add(&mut self, tokens: &[Token<'_>], at: usize, last: Blamed) -> Result<bool, Memory> {
+        let Some(blamed) = blamed_after(tokens, self.main.index, at, last) else {
+            return Ok(false);
+        };
+        self.refused.at = at;
+        if last.tests > 0 && is_at(tokens, at, Symbol::Else) {
+            return Ok(true);
+        }
+        let number = self.window.index_of(at);
+        let Some(fault) = said_at(self.alloc, self.main, tokens, at, number)? else {
+            return Ok(false);
+        };
+        if !is_misleading(&fault.message, blamed, last) {
+            self.all.push(fault)?;
+        }
+        Ok(true)
+    }
+
+    /// Finds the next fault. Returns whether the search goes on.
+    fn step(&mut self) -> Result<bool, Memory> {
+        let Some(last) = self.remove()? else {
+            return Ok(false);
+        };
+        match self.window.refused(self.alloc, self.refused.at)? {
+            Some((tokens, at)) => self.add(tokens.as_slice(), at, last),
+            None => Ok(false),
+        }
+    }
+}
+
+/// The further faults of a main with these tokens.
+fn faults_in<'a, 's>(
+    alloc: Global,
+    main: Main<'a, 's>,
+    tokens: &'a [Token<'s>],
+    at: usize,
+    most: usize,
+) -> Result<Vec<FurtherFault>, Memory> {
+    let (window, at) = Window::new(alloc, tokens, at)?;
+    let mut search = Search {
+        alloc,
+        main,
+        window,
+        refused: Refused { at, tests: 0 },
+        all: Vec::new(alloc),
+    };
+    for _ in 0..most {
+        if !search.step()? {
+            break;
+        }
+    }
+    Ok(search.all)
 }
 
 /// The further faults of a main that the parser refused at the token `at`, `most` at most. Returns `Memory` if an
@@ -215,28 +251,15 @@ pub fn further_faults(
     at: usize,
     most: usize,
 ) -> Result<Vec<FurtherFault>, Memory> {
-    let mut all = Vec::new(alloc);
-    let Some(source) = sources.get(main) else {
-        return Ok(all);
-    };
-    let mut text = Vec::from_slice(alloc, source.text)?;
-    let mut at = at;
-    let mut tests: usize = 0;
-    for _ in 0..most {
-        let refused = Refused { at, tests };
-        let Some(last) = blamed_in(alloc, sources, main, text.as_slice(), refused)? else {
-            break;
-        };
-        remove(text.as_mut_slice(), last);
-        tests = last.tests;
-        match found_in(alloc, sources, main, text.as_slice(), last)? {
-            Found::Fault(next, fault) => {
-                all.push(fault)?;
-                at = next;
-            }
-            Found::Skipped(next) => at = next,
-            Found::Nothing => break,
-        }
+    if main >= sources.len() {
+        return Ok(Vec::new(alloc));
     }
-    Ok(all)
+    let Ok(tokens) = lex(alloc, sources, main) else {
+        return Ok(Vec::new(alloc));
+    };
+    let main = Main {
+        sources,
+        index: main,
+    };
+    faults_in(alloc, main, tokens.as_slice(), at, most)
 }

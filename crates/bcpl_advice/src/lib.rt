@@ -15,10 +15,11 @@ mod names;
 mod reserved;
 mod shapes;
 mod statements;
+mod window;
 mod words;
 
 pub use advice::advised;
 pub use after_lexical::faults_after_lexical;
 pub use after_scopes::further_scope_faults;
 pub use further::{FurtherFault, further_faults};
-pub use names::likely_meaning;
+pub use names::{likely_among, likely_meaning};

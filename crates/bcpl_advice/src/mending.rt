@@ -299,8 +299,8 @@ impl Tokens<'_, '_> {
         }
     }
 
-    /// The change of the use of a name.
-    fn used(self, at: usize) -> Option<Mending> {
+    /// The change of the use of a name, after which it needs no declaration.
+    pub fn used(self, at: usize) -> Option<Mending> {
         let before = at.saturating_sub(1);
         if is_at(self.all, before, Symbol::Goto) {
             self.change(Repair::Block, before, at)

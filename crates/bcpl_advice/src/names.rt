@@ -5,7 +5,7 @@ use crate::words::{is_at, is_joined, is_number, text_at};
 use bc_lex::Source;
 use bc_lex_tokens::{Symbol, Token};
 use bc_word::Memory;
-use bcpl_messages::library_like;
+use bcpl_messages::{library_like, library_names};
 use bcpl_places::Span;
 use std::alloc::Global;
 
@@ -148,9 +148,15 @@ pub fn likely_meaning(
     main: usize,
     name: &[u8],
 ) -> Result<String, Memory> {
+    let known = library_names(alloc, sources, main)?;
+    likely_among(alloc, known.as_slice(), name)
+}
+
+/// The same for one of several names. `known` is what `library_names` gives for the main.
+pub fn likely_among(alloc: Global, known: &[Token<'_>], name: &[u8]) -> Result<String, Memory> {
     match routine_meant(name) {
         Some(routine) => Ok(format!(in alloc; "; the library has {routine}")?),
-        None => library_like(alloc, sources, main, name),
+        None => library_like(alloc, known, name),
     }
 }
 

@@ -7,13 +7,16 @@ use crate::argument_reader::ArgumentReader;
 use crate::atomic_file::Links;
 use crate::commands::program;
 use crate::converting::{ConvertOrder, convert_order};
+use crate::failure::Failure;
 use crate::formatting::{FormatOrder, format_order};
 use crate::grammar::Numbers;
 use crate::guessing::invalid_number;
 use crate::serving::{ServeOrder, serve_order};
+use crate::standard_input::StandardInput;
 use clap::error::ErrorKind;
 use clap::{ArgMatches, Error};
 use std::alloc::{AllocError, Global};
+use std::io::Read;
 
 /// A stream or a GET name, with the path of its file.
 #[derive(Clone, Copy)]
@@ -45,6 +48,8 @@ pub struct RunOrder<'a> {
     pub watch: WatchOrder<'a>,
     pub inputs: Vec<Binding<'a>>,
     pub outputs: Vec<Binding<'a>>,
+    /// The folder whose files the run opens by name, if any.
+    pub folder: Option<&'a str>,
     pub texts: Vec<&'a str>,
     /// The sources that the texts were built from, if the profile is to name their routines.
     pub sources: Sources<'a>,
@@ -139,6 +144,20 @@ pub struct Sources<'a> {
     pub includes: Vec<&'a str>,
     /// The sources, each of which becomes a segment.
     pub files: Vec<&'a str>,
+    /// What is read for `-`, which in some commands is the name of a file.
+    pub standard: StandardInput,
+}
+
+impl Sources<'_> {
+    /// Reads standard input if one of the sources is `-`. Fails like `StandardInput::of`.
+    fn read_standard_input<R: Read + Drop>(
+        &mut self,
+        alloc: Global,
+        input: R,
+    ) -> Result<(), Failure> {
+        self.standard = StandardInput::of(alloc, self.files.as_slice(), input)?;
+        Ok(())
+    }
 }
 
 /// The arguments of `build`.
@@ -263,6 +282,20 @@ pub struct ListOrder<'a> {
     /// The sources that the texts were built from, if routines are to be named.
     pub sources: Sources<'a>,
     pub places: Places,
+    /// What is read for `-` among the texts.
+    pub standard: StandardInput,
+}
+
+impl ListOrder<'_> {
+    /// Reads standard input if one of the texts is `-`. Fails like `StandardInput::of`.
+    fn read_standard_input<R: Read + Drop>(
+        &mut self,
+        alloc: Global,
+        input: R,
+    ) -> Result<(), Failure> {
+        self.standard = StandardInput::of(alloc, self.texts.as_slice(), input)?;
+        Ok(())
+    }
 }
 
 /// The arguments of `explain`.
@@ -337,6 +370,36 @@ impl Order<'_> {
             Order::Check(order) => order.places,
             Order::Convert(order) => order.places,
             Order::Format(order) => order.places,
+        }
+    }
+
+    /// The bytes of stack that suffice for the command, however deep its sources nest. The deepest known take 1,050,000,
+    /// and 2,750,000 in `convert`.
+    pub fn stack(&self) -> u64 {
+        match self {
+            Order::Convert(_) => 4_000_000,
+            _ => 1_500_000,
+        }
+    }
+
+    /// Reads standard input if one of the files is `-` and the command takes that for it. Fails like
+    /// `StandardInput::of`.
+    pub fn read_standard_input<R: Read + Drop>(
+        &mut self,
+        alloc: Global,
+        input: R,
+    ) -> Result<(), Failure> {
+        match self {
+            Order::Go(order) => order.program.sources.read_standard_input(alloc, input),
+            Order::Interpret(order) => order.program.sources.read_standard_input(alloc, input),
+            Order::Debug(order) => order.sources.read_standard_input(alloc, input),
+            Order::Tame(order) => order.sources.read_standard_input(alloc, input),
+            Order::Show(order) => order.sources.read_standard_input(alloc, input),
+            Order::Explain(order) => order.sources.read_standard_input(alloc, input),
+            Order::List(order) => order.read_standard_input(alloc, input),
+            Order::Convert(order) => order.read_standard_input(alloc, input),
+            Order::Format(order) => order.read_standard_input(alloc, input),
+            _ => Ok(()),
         }
     }
 }
@@ -571,6 +634,7 @@ fn sources_by<'a>(reader: &mut ArgumentReader<'_, 'a>, name: &str) -> Sources<'a
         gets: reader.bindings("get", GET_ACCEPTS),
         includes: reader.values("include"),
         files: reader.values(name),
+        standard: StandardInput::none(),
     }
 }
 
@@ -648,6 +712,7 @@ fn run_order<'a>(reader: &mut ArgumentReader<'_, 'a>) -> RunOrder<'a> {
         watch: watch_order(reader),
         inputs: reader.bindings("in", IN_ACCEPTS),
         outputs: reader.bindings("to", TO_ACCEPTS),
+        folder: reader.value("files"),
         texts: reader.values("TEXT"),
         sources: sources_by(reader, "source"),
         places: places_option(reader),
@@ -723,6 +788,7 @@ fn list_order<'a>(reader: &mut ArgumentReader<'_, 'a>) -> ListOrder<'a> {
         texts: reader.values("TEXT"),
         sources: sources_by(reader, "source"),
         places: places_option(reader),
+        standard: StandardInput::none(),
     }
 }
 

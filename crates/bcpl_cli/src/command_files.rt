@@ -10,7 +10,7 @@ use std::alloc::Global;
 use std::rt::Files;
 
 /// The path of standard input.
-const STANDARD_INPUT: &str = "/dev/stdin";
+pub(crate) const STANDARD_INPUT: &str = "/dev/stdin";
 
 /// What a command does with a file.
 #[derive(Clone, Copy, PartialEq, Eq)]

@@ -75,15 +75,15 @@ const FILES: Argument = Argument {
     name: "FILE",
     form: Form::Words("FILE", 1),
     constraint: Constraint::Required,
-    help: "BCPL source files, one section each",
+    help: "BCPL source files, one section each; - is standard input",
 };
 
-/// One or more texts.
+/// One or more texts, of which - is the name of a file.
 const TEXTS: Argument = Argument {
     name: "TEXT",
     form: Form::Words("TEXT", 1),
     constraint: Constraint::Required,
-    help: "INTCODE text files, linked in this order",
+    help: "INTCODE text files, linked in this order; /dev/stdin is standard input",
 };
 
 /// Writes files with several names in place.
@@ -165,7 +165,12 @@ const BUILD: CommandSpec = CommandSpec {
         MESSAGES,
         ERRORS,
         NO_WARNINGS,
-        FILES,
+        Argument {
+            name: "FILE",
+            form: Form::Words("FILE", 1),
+            constraint: Constraint::Required,
+            help: "BCPL source files, one section each; /dev/stdin is standard input",
+        },
     ],
 };
 
@@ -202,7 +207,7 @@ const SHOW: CommandSpec = CommandSpec {
             name: "FILE",
             form: Form::Word("FILE"),
             constraint: Constraint::Required,
-            help: "The BCPL source file",
+            help: "The BCPL source file; - is standard input",
         },
     ],
 };
@@ -238,8 +243,9 @@ const LIST: CommandSpec = CommandSpec {
     more: "Lists each word, beginning with the boot code: its address, its value, and its INTCODE item. Each label has a\n\
            separate line with its global and the jumps to it; strings and tables are shown as such. With --cert, the\n\
            listing marks where each expression, test and assignment of the certificate begins. With --source, it names\n\
-           each routine before its label, with its file and line. With --sizes, it has a line for each part instead: the\n\
-           first address, the words, those of code and of data, and how many globals the part sets.\n\n\
+           each routine before its label, with its file and line; a text that was built with --lean has none for the\n\
+           library's. With --sizes, it has a line for each part instead: the first address, the words, those of code and\n\
+           of data, and how many globals the part sets.\n\n\
            Exit status: 0 success, 1 refused, 3 invalid arguments.\n\n\
            Examples:\n  bcpl list --cert hello.cert hello.int\n  bcpl list --sizes hello.int",
     arguments: &[
@@ -265,7 +271,12 @@ const LIST: CommandSpec = CommandSpec {
         LIBRARY,
         PLACES,
         MESSAGES,
-        TEXTS,
+        Argument {
+            name: "TEXT",
+            form: Form::Words("TEXT", 1),
+            constraint: Constraint::Required,
+            help: "INTCODE text files, linked in this order; - is standard input",
+        },
     ],
 };
 
@@ -307,6 +318,9 @@ const RUN: CommandSpec = CommandSpec {
     name: "run",
     about: "Links INTCODE texts after the primitives and runs them",
     more: "Input 1 is standard input, named SYSIN; output 1 is standard output, named SYSPRINT.\n\n\
+           With --files, FINDINPUT and FINDOUTPUT find the files of folder DIR too, while the run goes on: a name that was\n\
+           written can be read after ENDWRITE. A name has letters, digits and any of `._-`, and does not begin with a point.\n\
+           The program can replace each file of DIR.\n\n\
            With --trace, --profile or --high the run does the same, only slower; the files are written even if the run\n\
            does not finish. CELL is the highest cell in which an instruction was executed, or that an instruction read\n\
            or wrote; FRAME is the highest address at which a frame began. A line `bcpl: wrote PART FIRST to LAST` follows for\n\
@@ -326,6 +340,12 @@ const RUN: CommandSpec = CommandSpec {
         },
         IN,
         TO,
+        Argument {
+            name: "files",
+            form: Form::Option("DIR"),
+            constraint: Constraint::Free,
+            help: "Let the program open the files of folder DIR by name, and make new ones in it",
+        },
         PLACES,
         MESSAGES,
         TEXTS,
@@ -458,8 +478,8 @@ const DEBUG: CommandSpec = CommandSpec {
     about: "Runs BCPL sources step by step, forwards and backwards",
     more: "Compiles the sources as `build` does, runs their meaning as `interpret` does, and records the run. The commands\n\
            have the words of gdb: step, next, finish, break, print and so on, and reverse-step and its like go back;\n\
-           `last NAME` finds the command that changed a variable last. `help` lists them. They are read from the\n\
-           terminal or a pipe.\n\n\
+           `last NAME` finds the command that changed a variable last. `help` lists them. They are read from standard\n\
+           input, after the source if a FILE is -; then --script gives them.\n\n\
            With --out, writes the recording as a page for a browser instead. The page is self-contained.\n\n\
            With --strict, the run ends at what `interpret --strict` reports, and the command there is its last stop.\n\n\
            The program's standard input is the file that --input names, or empty. --in and --to attach further streams, as\n\
@@ -519,8 +539,8 @@ const TAME: CommandSpec = CommandSpec {
     name: "tame",
     about: "Decides whether no run of a BCPL source can meet a wild cell",
     more: "Compiles the source as `build` does, and checks its text. If the answer is `ok tame ROOM`, every run of the\n\
-           image has the output and the ending that the source means, on all inputs: that is a theorem. ROOM is a\n\
-           number of cells, from two above the base of the stack, that suffices for every run.\n\n\
+           image has the output and the ending that the source means, on all inputs, if no device fails: that is a\n\
+           theorem. ROOM is a number of cells, from two above the base of the stack, that suffices for every run.\n\n\
            Otherwise prints the first place that the check can't accept and what it would need. Such a program is not\n\
            known to be tame; it may be harmless. `interpret` says whether one run is wild.\n\n\
            The program is BLIB and the FILEs.\n\n\
@@ -543,7 +563,7 @@ const CHECK: CommandSpec = CommandSpec {
             name: "CERT",
             form: Form::Word("CERT"),
             constraint: Constraint::Required,
-            help: "The certificate file",
+            help: "The certificate file; /dev/stdin is standard input",
         },
         Argument {
             name: "TEXT",
@@ -578,7 +598,7 @@ const CONVERT: CommandSpec = CommandSpec {
             name: "FILE",
             form: Form::Word("FILE"),
             constraint: Constraint::Required,
-            help: "The source file to convert; with --project also a folder",
+            help: "The source file to convert, or - for standard input; with --project also a folder",
         },
         Argument {
             name: "FURTHER",

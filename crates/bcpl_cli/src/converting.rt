@@ -3,6 +3,10 @@
 use crate::argument_reader::ArgumentReader;
 use crate::arguments::{Places, is_standard_output, links_option, places_option};
 use crate::atomic_file::Links;
+use crate::failure::Failure;
+use crate::standard_input::StandardInput;
+use std::alloc::Global;
+use std::io::Read;
 
 /// Where the results of `convert` go.
 #[derive(Clone, Copy)]
@@ -60,6 +64,23 @@ pub struct ConvertOrder<'a> {
     /// What happens to further names of the files that are written.
     pub links: Links,
     pub places: Places,
+    /// What is read for `-`.
+    pub standard: StandardInput,
+}
+
+impl ConvertOrder<'_> {
+    /// Reads standard input if one of the sources is `-`. A project is a folder, so it is none. Fails like
+    /// `StandardInput::of`.
+    pub(crate) fn read_standard_input<R: Read + Drop>(
+        &mut self,
+        alloc: Global,
+        input: R,
+    ) -> Result<(), Failure> {
+        if !self.is_project {
+            self.standard = StandardInput::of(alloc, self.files.as_slice(), input)?;
+        }
+        Ok(())
+    }
 }
 
 /// What `--header` accepts.
@@ -137,5 +158,6 @@ pub fn convert_order<'a>(reader: &mut ArgumentReader<'_, 'a>) -> ConvertOrder<'a
         defines: reader.values("define"),
         links: links_option(reader),
         places: places_option(reader),
+        standard: StandardInput::none(),
     }
 }

@@ -37,6 +37,33 @@ impl fmt::Display for Escaped<'_> {
     }
 }
 
+/// A text whose `Display` shows control characters like `Escaped`, except line feeds and tabs. Bytes that aren't valid UTF-8
+/// are taken for Latin-1.
+#[derive(Clone, Copy)]
+pub struct EscapedText<'a>(pub &'a [u8]);
+
+/// Writes a character of a text, or its escape.
+fn write_of_text<W: fmt::Write>(f: &mut fmt::Formatter<W>, character: char) -> fmt::Result {
+    match character {
+        '\n' | '\t' => f.write_char(character),
+        _ => write_escaped(f, character),
+    }
+}
+
+impl fmt::Display for EscapedText<'_> {
+    fn fmt<W: fmt::Write>(&self, f: &mut fmt::Formatter<W>) -> fmt::Result {
+        for chunk in self.0.utf8_chunks() {
+            for character in chunk.valid().chars() {
+                write_of_text(f, character)?;
+            }
+            for byte in chunk.invalid() {
+                write_of_text(f, char::from(*byte))?;
+            }
+        }
+        Ok(())
+    }
+}
+
 /// A path as messages show it, without control characters. `Memory` if an allocation fails.
 pub fn shown_path(alloc: Global, path: &str) -> Result<String, Memory> {
     let path = Escaped(path);

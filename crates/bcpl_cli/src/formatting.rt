@@ -3,6 +3,10 @@
 use crate::argument_reader::ArgumentReader;
 use crate::arguments::{Places, links_option, places_option};
 use crate::atomic_file::Links;
+use crate::failure::Failure;
+use crate::standard_input::StandardInput;
+use std::alloc::Global;
+use std::io::Read;
 
 /// What happens to the layouts.
 #[derive(Clone, Copy, PartialEq, Eq)]
@@ -26,6 +30,20 @@ pub struct FormatOrder<'a> {
     /// What happens to further names of the files that are written.
     pub links: Links,
     pub places: Places,
+    /// What is read for `-`.
+    pub standard: StandardInput,
+}
+
+impl FormatOrder<'_> {
+    /// Reads standard input if one of the sources is `-`. Fails like `StandardInput::of`.
+    pub(crate) fn read_standard_input<R: Read + Drop>(
+        &mut self,
+        alloc: Global,
+        input: R,
+    ) -> Result<(), Failure> {
+        self.standard = StandardInput::of(alloc, self.files.as_slice(), input)?;
+        Ok(())
+    }
 }
 
 /// The width of lines if none is given.
@@ -51,5 +69,6 @@ pub fn format_order<'a>(reader: &mut ArgumentReader<'_, 'a>) -> FormatOrder<'a> 
         width: usize::try_from(width).unwrap_or(usize::MAX),
         links: links_option(reader),
         places: places_option(reader),
+        standard: StandardInput::none(),
     }
 }

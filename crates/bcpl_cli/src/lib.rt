@@ -37,6 +37,8 @@ mod numbers;
 mod read_file;
 mod refusals;
 mod serving;
+mod stack_limit;
+mod standard_input;
 mod utf8_scan;
 mod version;
 
@@ -49,7 +51,7 @@ pub use arguments::{
 pub use atomic_file::{AtomicFile, Links, is_one_file, is_regular, named_twice, remove_unfinished};
 pub use clean::Clean;
 pub use converting::{ConvertDialect, ConvertHeader, ConvertOrder, ConvertTo};
-pub use escaped::{Escaped, shown_path};
+pub use escaped::{Escaped, EscapedText, shown_path};
 pub use failure::{BuildLine, Cause, Failure, Strict, Wild};
 pub use file_kinds::{FileKind, file_kind};
 pub use file_pair::FilePair;
@@ -62,3 +64,5 @@ pub use library_cutting::lean_libraries;
 pub use loaded_sources::{LoadedSource, load_sources};
 pub use read_file::{FILE_LIMIT, contents};
 pub use serving::ServeOrder;
+pub use stack_limit::check_stack;
+pub use standard_input::StandardInput;

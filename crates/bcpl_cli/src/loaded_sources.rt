@@ -1,7 +1,9 @@
-//! The sources of a program, read from the files that the arguments name and from the folders of `--include`.
+//! The sources of a program, read from the files that the arguments name, or standard input, and from the folders of
+//! `--include`.
 
 use crate::Failure;
 use crate::arguments::{Library, Sources};
+use crate::command_files::STANDARD_INPUT;
 use crate::escaped::shown_path;
 use crate::folders::is_folder;
 use crate::got_names::got_names;
@@ -54,6 +56,31 @@ fn add_source<F: Files>(
 ) -> Result<(), Failure> {
     let text = contents(rt, alloc, path)?;
     Ok(sources.push(loaded(alloc, name, path, text)?)?)
+}
+
+/// Reads a source from standard input or from the file with this path, and adds it.
+fn add_file<F: Files>(
+    rt: &F,
+    alloc: Global,
+    given: &Sources<'_>,
+    sources: &mut Vec<LoadedSource>,
+    path: &str,
+) -> Result<(), Failure> {
+    let text = given.standard.contents(rt, alloc, path)?;
+    let shown = given.standard.shown(alloc, path)?;
+    let place = if given.standard.is_at(path) {
+        STANDARD_INPUT
+    } else {
+        path
+    };
+    let name = String::from_str(alloc, path)?;
+    let path = String::from_str(alloc, place)?;
+    Ok(sources.push(LoadedSource {
+        name,
+        path,
+        shown,
+        text,
+    })?)
 }
 
 /// Whether GET finds a source with this name.
@@ -143,7 +170,7 @@ pub fn load_sources<F: Files>(
         add_source(rt, alloc, &mut sources, get.name, get.path)?;
     }
     for path in &given.files {
-        add_source(rt, alloc, &mut sources, path, path)?;
+        add_file(rt, alloc, given, &mut sources, path)?;
     }
     if !given.includes.is_empty() {
         check_folders(rt, alloc, given.includes.as_slice())?;

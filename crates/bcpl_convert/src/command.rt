@@ -85,7 +85,7 @@ fn texts_of<F: Files>(
 ) -> Result<Vec<Vec<u8>>, Failure> {
     let mut texts = Vec::new(alloc);
     for file in &order.files {
-        match contents(rt, alloc, file) {
+        match order.standard.contents(rt, alloc, file) {
             Ok(text) => texts.push(text)?,
             Err(failure) => return Err(read_failure(rt, alloc, file, failure)),
         }
@@ -193,7 +193,7 @@ fn jobs_of<'a>(
         let is_changed = old.as_slice() != converted.text();
         let to = Target::of(alloc, order.to, file, is_changed)?;
         jobs.push(Job {
-            file,
+            file: order.standard.name_of(file),
             old,
             converted,
             to,
@@ -236,26 +236,39 @@ fn tell_jobs(alloc: Global, order: &ConvertOrder<'_>, jobs: &[Job<'_>]) -> Resul
     }
 }
 
+/// Refuses a target that has the name of its source if that is standard input.
+fn refuse_nameless(alloc: Global, order: &ConvertOrder<'_>) -> Result<(), Failure> {
+    match order.to {
+        ConvertTo::Standard | ConvertTo::File(_) => Ok(()),
+        ConvertTo::Folder(_) | ConvertTo::Source => order.standard.refuse_place(
+            alloc,
+            "a result that goes here needs a file's name; use --out",
+        ),
+    }
+}
+
 /// Converts the sources with these names of an old library, writes the results and reports what must be done by hand.
 fn convert_with<F: Files, O: Write + Drop>(
     rt: &F,
     alloc: Global,
     order: &ConvertOrder<'_>,
     library: &OldNames<'_>,
-    out: &mut O,
+    output: (&mut O, bool),
 ) -> Result<(), Failure> {
+    let (out, is_terminal) = output;
     let texts = texts_of(rt, alloc, order)?;
     let converted = converted_in_rounds(rt, alloc, order, library, texts.as_slice())?;
     let jobs = jobs_of(alloc, order, texts, converted)?;
     spare(rt, alloc, order, jobs.as_slice())?;
     make_folder(rt, alloc, order)?;
     for job in &jobs {
-        write_job(rt, alloc, job, out)?;
+        write_job(rt, alloc, job, is_terminal, out)?;
     }
     tell_jobs(alloc, order, jobs.as_slice())
 }
 
 /// Converts old sources, writes the results and reports what must be done by hand. Even then everything is written.
+/// `output` is standard output, and whether that is a terminal, to which control characters go as escapes.
 ///
 /// # Errors
 ///
@@ -265,10 +278,11 @@ pub fn convert_file<F: Files, O: Write + Drop>(
     rt: &F,
     alloc: Global,
     order: &ConvertOrder<'_>,
-    out: &mut O,
+    output: (&mut O, bool),
 ) -> Result<(), Failure> {
+    refuse_nameless(alloc, order)?;
     let list = list_text(rt, alloc, order)?;
     let names = renamings(alloc, list.as_slice())?;
     refuse_list(alloc, order, list.as_slice(), &names)?;
-    convert_with(rt, alloc, order, &names.list, out)
+    convert_with(rt, alloc, order, &names.list, output)
 }

@@ -1,7 +1,7 @@
 //! One source of the command: its conversion, and where that goes.
 
 use crate::rounds::Converted;
-use bcpl_cli::{AtomicFile, ConvertTo, Failure, Links};
+use bcpl_cli::{AtomicFile, ConvertTo, EscapedText, Failure, Links};
 use std::alloc::{AllocError, Global};
 use std::io::Write;
 use std::rt::Files;
@@ -115,7 +115,14 @@ fn print<O: Write + Drop>(alloc: Global, bytes: &[u8], out: &mut O) -> Result<()
     }
 }
 
-/// Writes the conversion of a source to its target.
+/// Writes to a terminal, with control characters as escapes.
+fn show<O: Write + Drop>(alloc: Global, bytes: &[u8], out: &mut O) -> Result<(), Failure> {
+    let text = EscapedText(bytes);
+    let shown = format!(in alloc; "{text}")?;
+    print(alloc, shown.as_bytes(), out)
+}
+
+/// Writes the conversion of a source to its target. `is_terminal` says whether `out` is a terminal.
 ///
 /// # Errors
 ///
@@ -124,10 +131,12 @@ pub fn write_job<F: Files, O: Write + Drop>(
     rt: &F,
     alloc: Global,
     job: &Job<'_>,
+    is_terminal: bool,
     out: &mut O,
 ) -> Result<(), Failure> {
     let text = job.converted.text();
     match &job.to {
+        Target::Standard if is_terminal => show(alloc, text, out),
         Target::Standard => print(alloc, text, out),
         Target::File(path) => write_file(rt, alloc, path.as_str(), job.links, text),
         Target::Place(kept) => {

@@ -2,7 +2,7 @@
 
 use crate::json::Json;
 use crate::names::{Names, Routine, Variable};
-use crate::parts::{AFTER, BEFORE};
+use crate::parts::{TO_END, TO_RECORDING};
 use crate::places::SitePlace;
 use crate::program::DebugProgram;
 use crate::scope::GLOBALS;
@@ -423,12 +423,20 @@ pub fn recording_of(alloc: Global, page: &PageOf<'_, '_>) -> Result<String, Memo
     json.finish()
 }
 
+/// Appends a part of the template.
+fn add_part(text: &mut String, part: &[&str]) -> Result<(), Memory> {
+    for piece in part {
+        text.push_str(piece)?;
+    }
+    Ok(())
+}
+
 /// The page of a run. `Memory` if an allocation fails.
 pub fn page_of(alloc: Global, page: &PageOf<'_, '_>) -> Result<String, Memory> {
     let recording = recording_of(alloc, page)?;
     let mut text = String::new(alloc);
-    text.push_str(BEFORE)?;
+    add_part(&mut text, TO_RECORDING)?;
     text.push_str(recording.as_str())?;
-    text.push_str(AFTER)?;
+    add_part(&mut text, TO_END)?;
     Ok(text)
 }

@@ -3,7 +3,7 @@
 use crate::program::DebugProgram;
 use bc_interpret_record::{InBody, StopKind, StopSite};
 use bc_lex_tokens::{Symbol, Token};
-use bc_scope_places::{BodyOf, Sites, token_at};
+use bc_scope_places::{BodyOf, Sites};
 use bc_word::Memory;
 use bcpl_messages::{is_at, symbol_at};
 use bcpl_places::Span;
@@ -46,18 +46,43 @@ fn body_of(body: InBody) -> BodyOf {
     }
 }
 
-/// The index of the root of a body that comes after `before` others.
-fn nth_root(sites: &Sites, body: BodyOf, before: u64) -> Option<usize> {
-    let mut left = before;
+/// A number for a body, by which bodies are sorted.
+fn number_of(body: BodyOf) -> u64 {
+    match body {
+        BodyOf::Routine(label) => label.saturating_mul(2),
+        BodyOf::Valof(number) => number.saturating_mul(2).saturating_add(1),
+    }
+}
+
+/// A main that was read again, with its roots sorted by their bodies.
+#[derive(Clone, Copy)]
+struct Main<'r, 's> {
+    read: &'r ReadMain<'s>,
+    /// The number of a body, with the index of a root.
+    roots: &'r [(u64, usize)],
+}
+
+/// The roots of a main, sorted by their bodies.
+fn sorted_roots(alloc: Global, sites: &Sites) -> Result<Vec<(u64, usize)>, Memory> {
+    let mut roots = Vec::new(alloc);
     for (index, root) in sites.roots.iter().enumerate() {
-        if root.body == body {
-            if left == 0 {
-                return Some(index);
-            }
-            left -= 1;
+        roots.push((number_of(root.body), index))?;
+    }
+    roots.sort()?;
+    Ok(roots)
+}
+
+impl Main<'_, '_> {
+    /// The index of the root of a body that comes after `before` others.
+    fn nth_root(&self, body: BodyOf, before: u64) -> Option<usize> {
+        let wanted = number_of(body);
+        let first = self.roots.partition_point(|root| root.0 < wanted);
+        let place = first.saturating_add(usize::try_from(before).ok()?);
+        match self.roots.get(place) {
+            Some((body, index)) if *body == wanted => Some(*index),
+            _ => None,
         }
     }
-    None
 }
 
 /// Whether a symbol is a command without a root.
@@ -76,7 +101,7 @@ fn is_plain(symbol: Symbol) -> bool {
 /// The token of the command without a root that comes after `skipped` others after this token.
 fn plain_after(tokens: &[Token<'_>], from: usize, skipped: u64) -> Option<usize> {
     let mut left = skipped;
-    for (index, _) in tokens.iter().enumerate().skip(from) {
+    for index in from..tokens.len() {
         if let Some(symbol) = symbol_at(tokens, index)
             && is_plain(symbol)
         {
@@ -90,23 +115,25 @@ fn plain_after(tokens: &[Token<'_>], from: usize, skipped: u64) -> Option<usize>
 }
 
 /// The token after the last root before a site; that of the routine's name if there is none.
-fn after_roots(read: &ReadMain<'_>, site: &StopSite) -> Option<usize> {
+fn after_roots(main: Main<'_, '_>, site: &StopSite) -> Option<usize> {
+    let read = main.read;
     let body = body_of(site.body);
     if let Some(before) = site.root.checked_sub(1) {
-        let root = nth_root(&read.sites, body, before)?;
+        let root = main.nth_root(body, before)?;
         return Some(read.extent_of_root(root)?.last.saturating_add(1));
     }
     match site.body {
-        InBody::Routine(label) => token_at(read.tokens.as_slice(), read.sites.label(label)?),
+        InBody::Routine(label) => read.token_of(read.sites.label(label)?),
         InBody::Valof(_) => None,
     }
 }
 
 /// The place of a command without a root.
-fn plain_place(read: &ReadMain<'_>, site: &StopSite) -> SitePlace {
+fn plain_place(main: Main<'_, '_>, site: &StopSite) -> SitePlace {
+    let read = main.read;
     let tokens = read.tokens.as_slice();
     let mut span = None;
-    if let Some(from) = after_roots(read, site)
+    if let Some(from) = after_roots(main, site)
         && let Some(first) = plain_after(tokens, from, site.skipped)
     {
         let last = match site.kind {
@@ -116,7 +143,7 @@ fn plain_place(read: &ReadMain<'_>, site: &StopSite) -> SitePlace {
         span = read.span_of(Extent { first, last });
     }
     let before = site.root.saturating_sub(1);
-    let root = nth_root(&read.sites, body_of(site.body), before);
+    let root = main.nth_root(body_of(site.body), before);
     SitePlace {
         span,
         kind: site.kind,
@@ -188,8 +215,9 @@ fn widened(tokens: &[Token<'_>], extent: Extent, kind: StopKind) -> Extent {
 }
 
 /// The place of a command with a root.
-fn rooted_place(read: &ReadMain<'_>, site: &StopSite) -> SitePlace {
-    let root = nth_root(&read.sites, body_of(site.body), site.root);
+fn rooted_place(main: Main<'_, '_>, site: &StopSite) -> SitePlace {
+    let read = main.read;
+    let root = main.nth_root(body_of(site.body), site.root);
     let mut span = None;
     if let Some(root) = root
         && let Some(extent) = read.extent_of_root(root)
@@ -219,11 +247,32 @@ pub(crate) fn is_rooted(kind: StopKind) -> bool {
 }
 
 /// The place of a site in this main.
-fn place_of(read: &ReadMain<'_>, site: &StopSite) -> SitePlace {
+fn place_of(main: Main<'_, '_>, site: &StopSite) -> SitePlace {
     if is_rooted(site.kind) {
-        rooted_place(read, site)
+        rooted_place(main, site)
     } else {
-        plain_place(read, site)
+        plain_place(main, site)
+    }
+}
+
+/// The place of a site, of which the mains and their sorted roots are these.
+fn placed<'r, 's>(
+    reads: &'r [ReadMain<'s>],
+    roots: &'r [Vec<(u64, usize)>],
+    site: &StopSite,
+) -> SitePlace {
+    match (reads.get(site.section), roots.get(site.section)) {
+        (Some(read), Some(roots)) => {
+            let roots = roots.as_slice();
+            place_of(Main { read, roots }, site)
+        }
+        _ => SitePlace {
+            span: None,
+            kind: site.kind,
+            section: site.section,
+            root: usize::MAX,
+            leaf: 0,
+        },
     }
 }
 
@@ -233,18 +282,13 @@ pub(crate) fn places_of(
     reads: &[ReadMain<'_>],
     sites: &[StopSite],
 ) -> Result<Vec<SitePlace>, Memory> {
+    let mut roots = Vec::new(alloc);
+    for read in reads {
+        roots.push(sorted_roots(alloc, &read.sites)?)?;
+    }
     let mut places = Vec::new(alloc);
     for site in sites {
-        places.push(match reads.get(site.section) {
-            Some(read) => place_of(read, site),
-            None => SitePlace {
-                span: None,
-                kind: site.kind,
-                section: site.section,
-                root: usize::MAX,
-                leaf: 0,
-            },
-        })?;
+        places.push(placed(reads, roots.as_slice(), site))?;
     }
     Ok(places)
 }

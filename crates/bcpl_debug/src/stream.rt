@@ -1,4 +1,4 @@
-//! The stops of a recording as a stream of bytes, as debugger/FORMAT.md has it.
+//! The stops of a recording as a stream of bytes, as pages/debugger/FORMAT.md has it.
 
 use bc_interpret_record::{Cell, Change, Frame, Move, NO_SITE, Recording, Stop};
 use bc_word::Memory;

@@ -11,8 +11,6 @@ use ucd_props::is_bidi_control;
 pub enum Fragment<'a> {
     /// Markup, JSON or a script, as it is.
     Mark(&'a str),
-    /// Text, which is escaped for HTML.
-    Tell(&'a str),
     /// Bytes as a JSON string, with its quotes.
     Quoted(&'a [u8]),
     /// A number.
@@ -70,6 +68,13 @@ impl Html {
     /// Adds markup as it is.
     pub fn mark(&mut self, markup: &str) {
         self.put(markup.as_bytes());
+    }
+
+    /// Adds a part of the template.
+    pub fn template(&mut self, texts: &[&str]) {
+        for text in texts {
+            self.mark(text);
+        }
     }
 
     /// Adds text, with the signs of markup escaped, and a question mark for each byte of a control character and of one
@@ -147,7 +152,6 @@ impl Html {
     fn part(&mut self, part: Fragment<'_>) {
         match part {
             Fragment::Mark(markup) => self.mark(markup),
-            Fragment::Tell(text) => self.tell(text),
             Fragment::Quoted(bytes) => self.quoted(bytes),
             Fragment::Number(number) => self.number(number),
             Fragment::Rule(rule) => self.rule(rule),

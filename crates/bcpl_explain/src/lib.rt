@@ -7,9 +7,8 @@
 mod file;
 mod html;
 mod nodes;
+mod parts;
 mod report;
 mod runs;
-mod script;
-mod style;
 
 pub use report::{Checked, explanation};

@@ -85,6 +85,14 @@ fn first_token(atoms: &[Atom]) -> Option<Atom> {
     atoms.iter().find(|atom| !atom.is_comment()).copied()
 }
 
+/// How many atoms there are up to the last one that is no comment.
+fn count_to_last_token(atoms: &[Atom]) -> usize {
+    match atoms.iter().rposition(|atom| !atom.is_comment()) {
+        Some(last) => last.saturating_add(1),
+        None => 0,
+    }
+}
+
 /// The number of line breaks before a line.
 fn breaks_before(atoms: &[Atom]) -> usize {
     match atoms.first() {
@@ -106,13 +114,12 @@ impl Layout {
         Ok(column_after(column, put))
     }
 
-    /// Where atom number `index` of a line is.
-    fn spot(atoms: &[Atom], index: usize, column: usize) -> Spot {
-        let further = atoms.get(index.saturating_add(1)..).unwrap_or(&[]);
+    /// Where atom number `index` of a line is. After `tokens` atoms only comments follow.
+    fn spot(tokens: usize, index: usize, column: usize) -> Spot {
         Spot {
             column,
             is_first: index == 0,
-            is_followed: first_token(further).is_some(),
+            is_followed: index.saturating_add(1) < tokens,
         }
     }
 
@@ -172,6 +179,7 @@ impl Layout {
         let most = self.width.max(column.saturating_add(NARROW));
         let mut at = column;
         let mut before: Option<Atom> = None;
+        let tokens = count_to_last_token(atoms);
         self.place = None;
         for (index, atom) in atoms.iter().enumerate() {
             if self.may_break(before, *atom) {
@@ -187,7 +195,7 @@ impl Layout {
                 at = self.put_blank(source, left, *atom, at)?;
             }
             self.context
-                .pass(source, *atom, Layout::spot(atoms, index, at))?;
+                .pass(source, *atom, Layout::spot(tokens, index, at))?;
             at = self.put(source, *atom, at)?;
             if at > most
                 && let Some(place) = self.place.take()

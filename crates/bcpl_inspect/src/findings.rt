@@ -1,12 +1,15 @@
 //! What `build` says of a document that an editor has open: errors, or warnings.
 
 use bc_build::{BuildError, Built, ParseError, Parsed, ScopeFault, build_keeping};
+use bc_lex::{LexError, Token};
 use bc_word::Memory;
-use bcpl_advice::{FurtherFault, advised, further_faults, further_scope_faults, likely_meaning};
+use bcpl_advice::{
+    FurtherFault, advised, faults_after_lexical, further_faults, further_scope_faults, likely_among,
+};
 use bcpl_cli::BuildLine;
 use bcpl_index::unknown_names;
-use bcpl_lsp::{Cost, Document, Finding, Related, line_starts, range_of, uri_of};
-use bcpl_messages::{Message, Note, message_of, shown};
+use bcpl_lsp::{Cost, Document, Finding, Lines, Related, range_of, uri_of};
+use bcpl_messages::{Message, Note, library_names, message_of, shown};
 use bcpl_places::{Span, way_to};
 use bcpl_show::{CostedSection, root_costs};
 use bcpl_sources::{Gathered, Program, entries_of_segment};
@@ -58,8 +61,8 @@ impl<'s> Checked<'_, '_, 's> {
             return self.document.range(alloc, span.start, span.end);
         }
         let text = self.text(span.file);
-        let starts = line_starts(alloc, text)?;
-        range_of(alloc, text, starts.as_slice(), (span.start, span.end))
+        let lines = Lines::of(alloc, text)?;
+        range_of(alloc, text, &lines, (span.start, span.end))
     }
 
     /// The URI of a source.
@@ -131,15 +134,20 @@ impl<'s> Checked<'_, '_, 's> {
         Ok(finding)
     }
 
-    /// The finding on a further name that isn't declared.
-    fn unknown(&self, alloc: Global, code: &str, span: Span) -> Result<Finding, Memory> {
-        let sources = self.program.named.sources;
+    /// The finding on a further name that isn't declared. `known` has the library's names.
+    fn unknown(
+        &self,
+        alloc: Global,
+        code: &str,
+        known: &[Token<'_>],
+        span: Span,
+    ) -> Result<Finding, Memory> {
         let text = self
             .text(span.file)
             .get(span.start..span.end)
             .unwrap_or(b"");
         let name = shown(alloc, text)?;
-        let meaning = likely_meaning(alloc, sources, self.main, text)?;
+        let meaning = likely_among(alloc, known, text)?;
         let place = self.place_here(alloc, Some(span))?;
         unknown_finding(alloc, place, code, name.as_str(), meaning.as_str())
     }
@@ -152,12 +160,13 @@ impl<'s> Checked<'_, '_, 's> {
         findings: &mut Vec<Finding>,
     ) -> Result<(), Memory> {
         let names = unknown_names(alloc, self.program.named.sources, self.main)?;
+        let known = library_names(alloc, self.program.named.sources, self.main)?;
         let code = match code.rsplit_once(' ') {
             Some((code, _)) => code,
             None => code,
         };
         for span in names.iter().skip(1).take(MOST) {
-            findings.push(self.unknown(alloc, code, *span)?)?;
+            findings.push(self.unknown(alloc, code, known.as_slice(), *span)?)?;
         }
         Ok(())
     }
@@ -179,6 +188,20 @@ impl<'s> Checked<'_, '_, 's> {
         let sources = self.program.named.sources;
         for fault in &further_faults(alloc, sources, self.main, at, MOST)? {
             findings.push(self.further(alloc, fault)?)?;
+        }
+        Ok(())
+    }
+
+    /// Adds the further faults of a source that the lexer refused.
+    fn add_lexical(
+        &self,
+        alloc: Global,
+        fault: LexError,
+        findings: &mut Vec<Finding>,
+    ) -> Result<(), Memory> {
+        let sources = self.program.named.sources;
+        for further in &faults_after_lexical(alloc, sources, self.main, fault, MOST)? {
+            findings.push(self.further(alloc, further)?)?;
         }
         Ok(())
     }
@@ -221,6 +244,9 @@ impl<'s> Checked<'_, '_, 's> {
         findings: &mut Vec<Finding>,
     ) -> Result<(), Memory> {
         match fault {
+            BuildError::Lex(main, fault) if *main == self.main => {
+                self.add_lexical(alloc, *fault, findings)
+            }
             BuildError::Parse(main, ParseError::Expected(at)) if *main == self.main => {
                 self.add_further(alloc, *at, findings)
             }

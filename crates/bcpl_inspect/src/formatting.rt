@@ -285,7 +285,8 @@ fn jobs_of<'a, F: Files>(
 ) -> Result<Vec<Job<'a>>, Failure> {
     let mut jobs = Vec::new(alloc);
     for path in &order.files {
-        let old = contents(rt, alloc, path)?;
+        let old = order.standard.contents(rt, alloc, path)?;
+        let path = order.standard.name_of(path);
         let new = layout_of(rt, alloc, order, (path, old.as_slice()), explains)?;
         jobs.push(Job { path, old, new })?;
     }
@@ -357,6 +358,10 @@ fn check_jobs<O: Write + Drop>(
 /// Refuses to lay out in place what is no plain file, if the sources are laid out in place.
 fn refuse_devices<F: Files>(rt: &F, alloc: Global, order: &FormatOrder<'_>) -> Result<(), Failure> {
     if order.to == FormatTo::Source {
+        order.standard.refuse_place(
+            alloc,
+            "this isn't a plain file and can't be laid out in place",
+        )?;
         for path in &order.files {
             refuse_device(rt, alloc, path)?;
         }

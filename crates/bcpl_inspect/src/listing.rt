@@ -6,32 +6,35 @@ use bc_core::Root;
 use bc_text_items::Segment;
 use bc_word::Memory;
 use bcpl_cli::{Cause, Failure, ListOrder};
-use bcpl_list::{ListedProgram, Note, image_listing, image_sizes};
+use bcpl_list::{ListedProgram, Listing, Note, TextName, image_sizes};
 use bcpl_reports::Text;
 use bcpl_sources::{
-    Growing, LinkedProgram, Remark, linked_program, named_routines, of_listing, or_memory_failure,
-    print_all, read_texts, segments_of, texts_of,
+    Growing, LinkedProgram, Remark, linked_texts, named_routines, of_listing, or_memory_failure,
+    print_all, read_texts_or_input, texts_of,
 };
 use std::alloc::Global;
+use std::io;
 use std::io::Write;
 use std::rt::Files;
 
-/// Adds this name `count` times.
-fn add_name<'a>(names: &mut Growing<&'a str>, name: &'a str, count: usize) {
-    for _ in 0..count {
-        names.add(name);
-    }
-}
-
-/// The name of each segment: the path of its text, or a name for the primitives.
-fn names_of<'a>(alloc: Global, texts: &[Text<'a>]) -> Result<Vec<&'a str>, Failure> {
+/// The names of the texts, after which there are so many segments: their paths, and a name for the primitives.
+fn names_of<'a>(
+    alloc: Global,
+    texts: &[Text<'a>],
+    ends: &[usize],
+) -> Result<Vec<TextName<'a>>, Memory> {
     let mut names = Growing::new(alloc);
-    names.add("the primitives");
-    for text in texts {
-        let segments = segments_of(alloc, &[*text], false)?;
-        add_name(&mut names, text.path, segments.len());
+    names.add(TextName {
+        name: "the primitives",
+        end: 1,
+    });
+    for (text, end) in texts.iter().zip(ends) {
+        names.add(TextName {
+            name: text.path,
+            end: end.saturating_add(1),
+        });
     }
-    or_memory_failure(names.whole())
+    names.whole()
 }
 
 /// The note on an entry of a certificate.
@@ -123,7 +126,11 @@ fn notes_of<'r>(
 }
 
 /// The sizes of a program's parts, with these names for its segments.
-fn sizes_of(alloc: Global, program: &LinkedProgram, names: &[&str]) -> Result<String, Memory> {
+fn sizes_of(
+    alloc: Global,
+    program: &LinkedProgram,
+    names: &[TextName<'_>],
+) -> Result<String, Memory> {
     let program = ListedProgram {
         segments: program.segments.as_slice(),
         names,
@@ -133,22 +140,48 @@ fn sizes_of(alloc: Global, program: &LinkedProgram, names: &[&str]) -> Result<St
     image_sizes(alloc, program)
 }
 
-/// The listing of a program, with these names for its segments and these notes.
-fn listing_of<'p>(
+/// Prints the text of a listing since it was last printed.
+fn print_part<O: Write + Drop>(listing: &mut Listing<'_>, out: &mut O) -> io::Result<()> {
+    out.write_all(listing.text().as_bytes())?;
+    listing.clear();
+    Ok(())
+}
+
+/// Prints a listing of this many segments.
+fn print_listing<O: Write + Drop>(
+    listing: &mut Listing<'_>,
+    count: usize,
+    out: &mut O,
+) -> io::Result<()> {
+    for segment in 0..count {
+        listing.add_segment(segment);
+        if listing.is_long() {
+            print_part(listing, out)?;
+        }
+    }
+    listing.add_end();
+    print_part(listing, out)?;
+    out.flush()
+}
+
+/// Prints the listing of a program with these names for its segments and these notes.
+fn list_program<'p, O: Write + Drop>(
     alloc: Global,
     program: &'p LinkedProgram,
-    names: &'p [&'p str],
-    remarks: (&'p [Remark], &'p [Remark]),
-) -> Result<String, Memory> {
-    let (routines, entries) = remarks;
-    let notes = notes_of(alloc, routines, entries)?;
-    let program = ListedProgram {
-        segments: program.segments.as_slice(),
+    names: &'p [TextName<'p>],
+    notes: &'p [Note<'p>],
+    out: &mut O,
+) -> Result<(), Failure> {
+    let segments = program.segments.as_slice();
+    let listed = ListedProgram {
+        segments,
         names,
         image: &program.image,
-        notes: notes.as_slice(),
+        notes,
     };
-    image_listing(alloc, program)
+    let mut listing = Listing::new(alloc, listed);
+    of_listing(alloc, print_listing(&mut listing, segments.len(), out))?;
+    Ok(listing.finish()?)
 }
 
 /// The notes on the routines of a program, and those on its entries, as they are ordered.
@@ -164,34 +197,22 @@ fn all_remarks<F: Files>(
     Ok((routines, entries))
 }
 
-/// The listing of these texts.
-fn listed_of<F: Files>(
+/// Prints the listing of a program, or the sizes of its parts if these are ordered.
+fn print_program<'l, F: Files, O: Write + Drop>(
     rt: &F,
     alloc: Global,
     order: &ListOrder<'_>,
-    texts: &[Text<'_>],
-    explains: bool,
-) -> Result<String, Failure> {
-    let program = linked_program(alloc, texts, explains)?;
-    let names = names_of(alloc, texts)?;
+    listed: (&'l LinkedProgram, &'l [TextName<'l>], bool),
+    out: &mut O,
+) -> Result<(), Failure> {
+    let (program, names, explains) = listed;
     if order.only_sizes {
-        return or_memory_failure(sizes_of(alloc, &program, names.as_slice()));
+        let text = sizes_of(alloc, program, names)?;
+        return of_listing(alloc, print_all(text.as_bytes(), out));
     }
-    let (routines, entries) = all_remarks(rt, alloc, order, &program, explains)?;
-    let remarks = (routines.as_slice(), entries.as_slice());
-    or_memory_failure(listing_of(alloc, &program, names.as_slice(), remarks))
-}
-
-/// Reads the texts and returns their listing.
-fn listed<F: Files>(
-    rt: &F,
-    alloc: Global,
-    order: &ListOrder<'_>,
-    explains: bool,
-) -> Result<String, Failure> {
-    let files = read_texts(rt, alloc, order.texts.as_slice())?;
-    let texts = texts_of(alloc, files.as_slice())?;
-    listed_of(rt, alloc, order, texts.as_slice(), explains)
+    let (routines, entries) = all_remarks(rt, alloc, order, program, explains)?;
+    let notes = notes_of(alloc, routines.as_slice(), entries.as_slice())?;
+    list_program(alloc, program, names, notes.as_slice(), out)
 }
 
 /// Runs `list`. If `explains`, explains a refusal.
@@ -202,6 +223,16 @@ pub fn list<F: Files, O: Write + Drop>(
     explains: bool,
     out: &mut O,
 ) -> Result<(), Failure> {
-    let text = listed(rt, alloc, order, explains)?;
-    of_listing(alloc, print_all(text.as_bytes(), out))
+    let files = read_texts_or_input(rt, alloc, &order.standard, order.texts.as_slice())?;
+    let texts = texts_of(alloc, files.as_slice())?;
+    let mut ends = Vec::new(alloc);
+    let program = linked_texts(alloc, texts.as_slice(), &mut ends, explains)?;
+    let names = names_of(alloc, texts.as_slice(), ends.as_slice())?;
+    print_program(
+        rt,
+        alloc,
+        order,
+        (&program, names.as_slice(), explains),
+        out,
+    )
 }

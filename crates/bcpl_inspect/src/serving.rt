@@ -5,7 +5,7 @@ use crate::served_files::{absolute_folders, headers_of, library_for, sources_of}
 use bc_library_ext::EXTHDR;
 use bc_run::LIBHDR;
 use bc_word::Memory;
-use bcpl_cli::{Cause, Failure, LinkedLibrary, LoadedSource, ServeOrder, Sources};
+use bcpl_cli::{Cause, Failure, LinkedLibrary, LoadedSource, ServeOrder, Sources, StandardInput};
 use bcpl_lsp::{
     Answer, Cost, Document, File, Finding, Job, Received, Server, read_message, write_message,
 };
@@ -45,6 +45,7 @@ fn given_for<'d>(
         gets: Vec::new(alloc),
         includes: Vec::new(alloc),
         files,
+        standard: StandardInput::none(),
     })
 }
 

@@ -9,5 +9,5 @@ mod references;
 mod sizes;
 mod strings;
 
-pub use listing::{ListedProgram, Note, image_listing};
+pub use listing::{ListedProgram, Listing, Note, TextName};
 pub use sizes::image_sizes;

@@ -21,13 +21,31 @@ pub struct Note<'p> {
     pub said: &'p str,
 }
 
+/// The name of the segments of a text.
+#[derive(Clone, Copy)]
+pub struct TextName<'p> {
+    /// The name.
+    pub name: &'p str,
+    /// The number of segments up to the last one of the text.
+    pub end: usize,
+}
+
+/// The name of a segment.
+pub fn name_of<'p>(names: &[TextName<'p>], segment: usize) -> &'p str {
+    let text = names.partition_point(|text| text.end <= segment);
+    match names.get(text) {
+        Some(text) => text.name,
+        None => "unnamed",
+    }
+}
+
 /// A linked program.
 #[derive(Clone, Copy)]
 pub struct ListedProgram<'p> {
     /// The segments, beginning with the primitives.
     pub segments: &'p [Segment],
-    /// The names of the segments, in order.
-    pub names: &'p [&'p str],
+    /// The names of the texts, in order; the first one is for the primitives.
+    pub names: &'p [TextName<'p>],
     /// The image of the segments.
     pub image: &'p Image,
     /// The notes, in the order of segments and items.
@@ -68,9 +86,15 @@ struct Listed<'p> {
     references: Vec<Reference>,
 }
 
-/// The listing while it is written.
+/// How many bytes of a listing are held before they are taken.
+const LONG: usize = 65_536;
+
+/// The listing of a linked program while it is written: the boot code, the cells of the globals that are set, and the
+/// segments. Each word has a line with its address, its value, its item and a description. A label has a separate line, with
+/// what it labels and the references to it. Two bytes share a word. Its text is taken in parts, since it may be longer than
+/// the program.
 #[derive(Drop)]
-struct Listing<'p> {
+pub struct Listing<'p> {
     alloc: Global,
     page: Page,
     program: ListedProgram<'p>,
@@ -215,10 +239,7 @@ impl<'p> Listing<'p> {
 
     /// The name of a segment.
     fn name_of(&self, segment: usize) -> &'p str {
-        match self.program.names.get(segment) {
-            Some(name) => name,
-            None => "unnamed",
-        }
+        name_of(self.program.names, segment)
     }
 
     /// Adds a note.
@@ -460,8 +481,46 @@ impl<'p> Listing<'p> {
         self.add_notes(listed.segment, listed.items.len());
     }
 
-    /// Adds a segment.
-    fn add_segment(&mut self, segment: usize, items: &'p [Item]) {
+    /// The listing of a program, up to its first segment.
+    pub fn new(alloc: Global, program: ListedProgram<'p>) -> Listing<'p> {
+        let mut listing = Listing {
+            alloc,
+            page: Page::new(alloc),
+            program,
+            told: 0,
+        };
+        listing.add_boot();
+        listing.add_globals();
+        listing
+    }
+
+    /// Whether the text is long enough to be taken.
+    pub fn is_long(&self) -> bool {
+        self.page.text().len() > LONG
+    }
+
+    /// The text since it was taken; empty if an allocation failed.
+    pub fn text(&self) -> &str {
+        self.page.text()
+    }
+
+    /// Forgets the text, which was taken.
+    pub fn clear(&mut self) {
+        self.page.clear();
+    }
+
+    /// Ends the listing. `Memory` if an allocation failed.
+    pub fn finish(self) -> Result<(), Memory> {
+        self.page.finish()
+    }
+
+    /// Adds the segment with this index.
+    pub fn add_segment(&mut self, segment: usize) {
+        let segments = self.program.segments;
+        let items: &'p [Item] = match segments.get(segment) {
+            Some(segment) => segment.items(),
+            None => &[],
+        };
         let start = match self.program.image.places.as_slice().get(segment) {
             Some(place) => usize::from(place.start.get()),
             None => 0,
@@ -474,29 +533,10 @@ impl<'p> Listing<'p> {
     }
 
     /// Adds the end of the image.
-    fn add_end(&mut self) {
+    pub fn add_end(&mut self) {
         let base = self.program.image.stack_base.get();
         self.page.add("\n/ the stack begins at ");
         self.page.add_number(usize::from(base));
         self.page.end_line();
     }
-}
-
-/// The listing of a linked program: the boot code, the cells of the globals that are set, and the segments. Each word
-/// has a line with its address, its value, its item and a description. A label has a separate line, with what it
-/// labels and the references to it. Two bytes share a word. `Memory` if an allocation fails.
-pub fn image_listing(alloc: Global, program: ListedProgram<'_>) -> Result<String, Memory> {
-    let mut listing = Listing {
-        alloc,
-        page: Page::new(alloc),
-        program,
-        told: 0,
-    };
-    listing.add_boot();
-    listing.add_globals();
-    for (segment, items) in program.segments.iter().enumerate() {
-        listing.add_segment(segment, items.items());
-    }
-    listing.add_end();
-    listing.page.into_text()
 }

@@ -123,11 +123,22 @@ impl Page {
         self.add("\n");
     }
 
-    /// The text, or `Memory` if an allocation failed.
-    pub fn into_text(self) -> Result<String, Memory> {
+    /// The text since it was cleared; empty if an allocation failed.
+    pub fn text(&self) -> &str {
         if self.is_refused {
-            return Err(Memory);
+            ""
+        } else {
+            self.text.as_str()
         }
-        Ok(self.text)
+    }
+
+    /// Forgets the lines up to here.
+    pub fn clear(&mut self) {
+        self.text.clear();
+    }
+
+    /// `Memory` if an allocation failed.
+    pub fn finish(self) -> Result<(), Memory> {
+        if self.is_refused { Err(Memory) } else { Ok(()) }
     }
 }

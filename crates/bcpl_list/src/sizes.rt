@@ -1,6 +1,6 @@
 //! The table of an image's parts: where each begins, and how many words it takes.
 
-use crate::listing::ListedProgram;
+use crate::listing::{ListedProgram, name_of};
 use bc_text_items::Item;
 use bc_word::Memory;
 use bcpl_places::{addresses, library_name};
@@ -97,7 +97,7 @@ pub fn image_sizes(alloc: Global, program: ListedProgram<'_>) -> Result<String, 
     let mut start = SEGMENTS;
     for (segment, listed) in program.segments.iter().enumerate() {
         let taken = use_of(alloc, listed.items())?;
-        let name = program.names.get(segment).copied().unwrap_or("unnamed");
+        let name = name_of(program.names, segment);
         add_segment(&mut text, segment, start, taken, name)?;
         start = start.saturating_add(taken.words);
     }

@@ -58,9 +58,14 @@ pub fn library_of(document: &Document, declared: Declared) -> Option<LibraryRout
 
 /// The line on which a declaration begins, from there on, up to a limit.
 fn line_from(file: &File, declared: Declared) -> &str {
-    let line = line_of(file.starts.as_slice(), declared.start);
-    let start = file.starts.get(line).copied().unwrap_or(declared.start);
-    let next = file.starts.get(line.saturating_add(1)).copied();
+    let line = line_of(file.lines.starts.as_slice(), declared.start);
+    let start = file
+        .lines
+        .starts
+        .get(line)
+        .copied()
+        .unwrap_or(declared.start);
+    let next = file.lines.starts.get(line.saturating_add(1)).copied();
     let end = next.unwrap_or(file.text.len());
     shown(file.stretch(start, end.min(start.saturating_add(LONGEST)))).trim()
 }
@@ -96,7 +101,7 @@ fn add_routine(text: &mut String, document: &Document, declared: Declared) -> Re
 
 /// Adds where a declaration is.
 fn add_place(text: &mut String, file: &File, declared: Declared) -> Result<(), Memory> {
-    let line = line_of(file.starts.as_slice(), declared.start).saturating_add(1);
+    let line = line_of(file.lines.starts.as_slice(), declared.start).saturating_add(1);
     if declared.file == 0 {
         writeln!(text, ", declared on line {line}.")?;
         return Ok(());

@@ -4,7 +4,7 @@ use crate::costs::Cost;
 use crate::finding::Finding;
 use crate::json_values::JsonObject;
 use crate::names::{Names, names_of};
-use crate::positions::{Position, line_starts, offset_of, range_of};
+use crate::positions::{Lines, Position, offset_of, range_of};
 use bc_lex::{Source, Token, lex};
 use bc_word::Memory;
 use serde_json::Value;
@@ -19,19 +19,19 @@ pub struct File {
     pub path: String,
     /// Its content.
     pub text: Vec<u8>,
-    /// The offsets at which its lines begin.
-    pub starts: Vec<usize>,
+    /// Its lines.
+    pub lines: Lines,
 }
 
 impl File {
     /// A file with this content. Returns `Memory` if an allocation fails.
     pub fn new(alloc: Global, name: &str, path: &str, text: Vec<u8>) -> Result<File, Memory> {
-        let starts = line_starts(alloc, text.as_slice())?;
+        let lines = Lines::of(alloc, text.as_slice())?;
         Ok(File {
             name: String::from_str(alloc, name)?,
             path: String::from_str(alloc, path)?,
             text,
-            starts,
+            lines,
         })
     }
 
@@ -42,17 +42,12 @@ impl File {
 
     /// The range of a stretch. Returns `Memory` if an allocation fails.
     pub fn range(&self, alloc: Global, start: usize, end: usize) -> Result<Value, Memory> {
-        range_of(
-            alloc,
-            self.text.as_slice(),
-            self.starts.as_slice(),
-            (start, end),
-        )
+        range_of(alloc, self.text.as_slice(), &self.lines, (start, end))
     }
 
     /// The offset of a position.
     pub fn offset(&self, position: Position) -> usize {
-        offset_of(self.text.as_slice(), self.starts.as_slice(), position)
+        offset_of(self.text.as_slice(), self.lines.starts.as_slice(), position)
     }
 }
 
@@ -155,10 +150,10 @@ impl Document {
 
     /// Sets its own text. Returns `Memory` if an allocation fails.
     pub fn set_text(&mut self, alloc: Global, text: Vec<u8>) -> Result<(), Memory> {
-        let starts = line_starts(alloc, text.as_slice())?;
+        let lines = Lines::of(alloc, text.as_slice())?;
         if let Some(file) = self.files.first_mut() {
             file.text = text;
-            file.starts = starts;
+            file.lines = lines;
         }
         self.costs = None;
         Ok(())

@@ -84,11 +84,24 @@ pub fn diagnostic(alloc: Global, document: &Document, finding: &Finding) -> Resu
     object.finish()
 }
 
-/// The findings of a document as the protocol has them. Returns `Memory` if an allocation fails.
+/// The indexes of findings in the order of the text.
+fn in_order(alloc: Global, findings: &[Finding]) -> Result<Vec<(usize, usize)>, Memory> {
+    let mut order = Vec::new(alloc);
+    for (index, finding) in findings.iter().enumerate() {
+        order.push((finding.start, index))?;
+    }
+    order.sort()?;
+    Ok(order)
+}
+
+/// The findings of a document as the protocol has them, in the order of the text. Returns `Memory` if an allocation fails.
 pub fn diagnostics(alloc: Global, document: &Document) -> Result<Value, Memory> {
     let mut list = JsonArray::new(alloc);
-    for finding in &document.findings {
-        list.add(diagnostic(alloc, document, finding));
+    let findings = document.findings.as_slice();
+    for (_, index) in in_order(alloc, findings)? {
+        if let Some(finding) = findings.get(index) {
+            list.add(diagnostic(alloc, document, finding));
+        }
     }
     list.finish()
 }

@@ -29,5 +29,5 @@ pub use document::{Document, File};
 pub use finding::{Finding, Related};
 pub use framing::{Received, read_message, write_message};
 pub use paths::{folder_of, path_of, uri_of};
-pub use positions::{line_starts, range_of};
+pub use positions::{Lines, range_of};
 pub use server::{Answer, Job, Server};

@@ -209,5 +209,5 @@ pub fn foldings(alloc: Global, document: &Document) -> Result<Value, Memory> {
     };
     let sources = sources_of(alloc, document.files.as_slice())?;
     let tokens = tokens_of(alloc, sources.as_slice());
-    foldings_of(alloc, main.starts.as_slice(), tokens.as_slice())
+    foldings_of(alloc, main.lines.starts.as_slice(), tokens.as_slice())
 }

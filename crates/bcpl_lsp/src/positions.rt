@@ -23,8 +23,20 @@ fn is_line_end(text: &[u8], index: usize) -> bool {
     }
 }
 
-/// The offsets at which lines begin. Returns `Memory` if an allocation fails.
-pub fn line_starts(alloc: Global, text: &[u8]) -> Result<Vec<usize>, Memory> {
+/// How many bytes are between two counts of UTF-16 units.
+const STEP: usize = 256;
+
+/// The lines of a text, and counts of its UTF-16 units, so that a place in a long line is found as fast as another.
+#[derive(Drop)]
+pub struct Lines {
+    /// The offsets at which lines begin.
+    pub starts: Vec<usize>,
+    /// The number of units before each 256th byte.
+    units: Vec<usize>,
+}
+
+/// The offsets at which lines begin.
+fn line_starts(alloc: Global, text: &[u8]) -> Result<Vec<usize>, Memory> {
     let mut starts = Vec::new(alloc);
     starts.push(0)?;
     for index in 0..text.len() {
@@ -55,6 +67,36 @@ fn units_in(text: &[u8]) -> usize {
     units
 }
 
+/// The number of units before each 256th byte.
+fn counts_of(alloc: Global, text: &[u8]) -> Result<Vec<usize>, Memory> {
+    let mut counts = Vec::new(alloc);
+    let mut units: usize = 0;
+    for part in text.chunks(STEP) {
+        counts.push(units)?;
+        units = units.saturating_add(units_in(part));
+    }
+    counts.push(units)?;
+    Ok(counts)
+}
+
+impl Lines {
+    /// The lines of a text. Returns `Memory` if an allocation fails.
+    pub fn of(alloc: Global, text: &[u8]) -> Result<Lines, Memory> {
+        Ok(Lines {
+            starts: line_starts(alloc, text)?,
+            units: counts_of(alloc, text)?,
+        })
+    }
+
+    /// The number of UTF-16 units before an offset of the text.
+    fn units_before(&self, text: &[u8], offset: usize) -> usize {
+        let step = offset / STEP;
+        let counted = self.units.get(step).copied().unwrap_or(0);
+        let rest = text.get(step.saturating_mul(STEP)..offset).unwrap_or(b"");
+        counted.saturating_add(units_in(rest))
+    }
+}
+
 /// The index of the line with the byte at this offset.
 pub fn line_of(starts: &[usize], offset: usize) -> usize {
     match starts.binary_search(&offset) {
@@ -63,15 +105,15 @@ pub fn line_of(starts: &[usize], offset: usize) -> usize {
     }
 }
 
-/// The position of an offset. `starts` is what `line_starts` gives for the text.
-pub fn position_of(text: &[u8], starts: &[usize], offset: usize) -> Position {
+/// The position of an offset of the text with these lines.
+fn position_of(text: &[u8], lines: &Lines, offset: usize) -> Position {
     let offset = offset.min(text.len());
-    let line = line_of(starts, offset);
-    let start = starts.get(line).copied().unwrap_or(0);
-    let before = text.get(start..offset).unwrap_or(b"");
+    let line = line_of(lines.starts.as_slice(), offset);
+    let start = lines.starts.get(line).copied().unwrap_or(0);
+    let before = lines.units_before(text, start);
     Position {
         line,
-        character: units_in(before),
+        character: lines.units_before(text, offset).saturating_sub(before),
     }
 }
 
@@ -129,17 +171,17 @@ pub fn range_value(alloc: Global, first: Position, last: Position) -> Result<Val
     object.finish()
 }
 
-/// The range of a stretch of a text. Returns `Memory` if an allocation fails.
+/// The range of a stretch of the text with these lines. Returns `Memory` if an allocation fails.
 pub fn range_of(
     alloc: Global,
     text: &[u8],
-    starts: &[usize],
+    lines: &Lines,
     stretch: (usize, usize),
 ) -> Result<Value, Memory> {
     let (start, end) = stretch;
     range_value(
         alloc,
-        position_of(text, starts, start),
-        position_of(text, starts, end),
+        position_of(text, lines, start),
+        position_of(text, lines, end),
     )
 }

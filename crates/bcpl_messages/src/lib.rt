@@ -22,9 +22,10 @@ mod syntax;
 mod trial_parse;
 mod words;
 
-pub use draft::{Draft, Fill};
-pub use likeness::library_like;
-pub use message::{Message, Note, message_of};
-pub use report::{Named, message_lines};
+pub use brackets::open_before;
+pub use draft::{Draft, Fill, add_sentence};
+pub use likeness::{library_like, library_names};
+pub use message::{Message, Note, message_of, message_on_tokens};
+pub use report::{Named, message_lines, message_lines_by};
 pub use syntax::span_of;
 pub use words::{is_at, shown, symbol_at};

@@ -78,17 +78,44 @@ pub fn nearest<'s>(
     Ok(best)
 }
 
-/// The tokens that are names of the library.
-fn library_names<'s>(alloc: Global, tokens: &[Token<'s>]) -> Result<Vec<Token<'s>>, Memory> {
-    let mut found = Vec::new(alloc);
+/// Whether one of these tokens has a text.
+fn has_text(tokens: &[Token<'_>], text: &[u8]) -> bool {
+    for token in tokens {
+        if token.text == text {
+            return true;
+        }
+    }
+    false
+}
+
+/// The first token of each name of the library.
+fn names_among<'s>(alloc: Global, tokens: &[Token<'s>]) -> Result<Vec<Token<'s>>, Memory> {
+    let mut found: Vec<Token<'s>> = Vec::new(alloc);
     for token in tokens {
         if let TokenKind::Name(name) = token.kind
             && (is_of_library(name) || is_of_further_library(name))
+            && !has_text(found.as_slice(), name)
         {
             found.push(*token)?;
         }
     }
     Ok(found)
+}
+
+/// The first token of each name of the library that a main has; none if it can't be read. Returns `Memory` if an allocation
+/// fails.
+pub fn library_names<'s>(
+    alloc: Global,
+    sources: &[Source<'s>],
+    main: usize,
+) -> Result<Vec<Token<'s>>, Memory> {
+    if main >= sources.len() {
+        return Ok(Vec::new(alloc));
+    }
+    match lex(alloc, sources, main) {
+        Ok(tokens) => names_among(alloc, tokens.as_slice()),
+        Err(_) => Ok(Vec::new(alloc)),
+    }
 }
 
 /// The header that declares a name of the library; `None` if it isn't one.
@@ -102,25 +129,14 @@ fn header_of(name: &[u8]) -> Option<&'static str> {
     }
 }
 
-/// What the library has for a name that a main uses and nothing declares: the header, or a similar name. It is the end
-/// of a sentence, and empty if the library has nothing. Returns `Memory` if an allocation fails.
-pub fn library_like(
-    alloc: Global,
-    sources: &[Source<'_>],
-    main: usize,
-    name: &[u8],
-) -> Result<String, Memory> {
+/// What the library has for a name that a main uses and nothing declares: the header, or a similar name. `known` is what
+/// `library_names` gives for the main. It is the end of a sentence, and empty if the library has nothing. Returns `Memory` if
+/// an allocation fails.
+pub fn library_like(alloc: Global, known: &[Token<'_>], name: &[u8]) -> Result<String, Memory> {
     if let Some(header) = header_of(name) {
         return Ok(String::from_str(alloc, header)?);
     }
-    if main >= sources.len() {
-        return Ok(String::new(alloc));
-    }
-    let Ok(tokens) = lex(alloc, sources, main) else {
-        return Ok(String::new(alloc));
-    };
-    let known = library_names(alloc, tokens.as_slice())?;
-    Ok(match nearest(alloc, known.as_slice(), name, &[])? {
+    Ok(match nearest(alloc, known, name, &[])? {
         Some(near) => {
             let near = shown(alloc, near)?;
             format!(in alloc; "; the library has {near}")?

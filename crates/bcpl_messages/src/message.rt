@@ -3,10 +3,11 @@
 use crate::draft::Draft;
 use crate::lexical::tell_lexical;
 use crate::linking::{tell_labels, tell_linking};
+use crate::read::Read;
 use crate::scopes::tell_scope;
-use crate::syntax::tell_syntax;
-use bc_build::BuildError;
-use bc_lex::Source;
+use crate::syntax::{tell_refused, tell_syntax};
+use bc_build::{BuildError, ParseError};
+use bc_lex::{Source, Token};
 use bc_word::Memory;
 use bcpl_places::Span;
 use std::alloc::Global;
@@ -61,6 +62,28 @@ fn main_of(error: &BuildError) -> usize {
         BuildError::Gen(main, _) => *main,
         BuildError::Link(_) | BuildError::Memory => 0,
     }
+}
+
+/// The message on these tokens of a main, which the parser refused. Returns `None` if nothing can be said, and `Memory` if an
+/// allocation fails.
+pub fn message_on_tokens(
+    alloc: Global,
+    sources: &[Source<'_>],
+    main: usize,
+    tokens: &[Token<'_>],
+    fault: ParseError,
+) -> Result<Option<Message>, Memory> {
+    let mut draft = Draft::new(alloc, main);
+    tell_refused(
+        &mut draft,
+        Read {
+            sources,
+            main,
+            tokens,
+        },
+        fault,
+    );
+    draft.end()
 }
 
 /// The message for a failed build of these sources. `mains` has the indexes of the sources that become a segment each.

@@ -803,6 +803,17 @@ fn tell_too_deep(draft: &mut Draft, read: Read<'_, '_>, index: usize) {
     draft.help("move a part of it to a separate routine or variable", &[]);
 }
 
+/// Describes a fault of the parser in a main that was read.
+pub fn tell_refused(draft: &mut Draft, read: Read<'_, '_>, fault: ParseError) {
+    match fault {
+        ParseError::Expected(index) => tell_expected(draft, read, index),
+        ParseError::Unclosed => tell_unclosed(draft, read),
+        ParseError::NotOpen(index) => tell_not_open(draft, read, index),
+        ParseError::TooDeep(index) => tell_too_deep(draft, read, index),
+        ParseError::Memory => {}
+    }
+}
+
 /// Describes a fault of the parser.
 pub fn tell_syntax(draft: &mut Draft, sources: &[Source<'_>], main: usize, fault: ParseError) {
     if main >= sources.len() {
@@ -816,11 +827,5 @@ pub fn tell_syntax(draft: &mut Draft, sources: &[Source<'_>], main: usize, fault
         main,
         tokens: tokens.as_slice(),
     };
-    match fault {
-        ParseError::Expected(index) => tell_expected(draft, read, index),
-        ParseError::Unclosed => tell_unclosed(draft, read),
-        ParseError::NotOpen(index) => tell_not_open(draft, read, index),
-        ParseError::TooDeep(index) => tell_too_deep(draft, read, index),
-        ParseError::Memory => {}
-    }
+    tell_refused(draft, read, fault);
 }

@@ -11,6 +11,7 @@ mod new_files;
 mod old_routines;
 mod outputs;
 mod page;
+mod parts;
 mod places;
 mod programs;
 mod renames;

@@ -1,5 +1,6 @@
 //! A report while it is written: as Markdown and as a page of HTML.
 
+use crate::parts::{TO_BODY, TO_END, TO_TITLE};
 use bc_word::Memory;
 use std::alloc::Global;
 
@@ -23,6 +24,13 @@ impl Text {
     fn push_str(&mut self, text: &str) {
         if self.text.push_str(text).is_err() {
             self.is_refused = true;
+        }
+    }
+
+    /// Appends a part of the template.
+    fn template(&mut self, texts: &[&str]) {
+        for text in texts {
+            self.push_str(text);
         }
     }
 
@@ -74,18 +82,6 @@ pub enum Part<'p> {
     Number(usize),
 }
 
-/// The beginning of the page.
-const HEAD: &str = "<!DOCTYPE html>
-<html lang=\"en\"><head><meta charset=\"utf-8\"><meta name=\"viewport\" content=\"width=device-width\">
-<style>
-:root { color-scheme: light dark; }
-body { font: 16px/1.5 sans-serif; max-width: 60em; margin: 1em auto; padding: 0 1em; }
-table { display: block; overflow-x: auto; border-collapse: collapse; margin: 1em 0; }
-th, td { text-align: left; vertical-align: top; padding: 0.2em 0.8em 0.2em 0; border-bottom: 1px solid #8886; }
-pre { overflow-x: auto; padding: 0.5em; border-left: 3px solid #8888; }
-</style>
-";
-
 /// Adds text to Markdown, with the signs of its markup escaped.
 fn add_plain(markdown: &mut Text, text: &str) {
     for character in text.chars() {
@@ -109,14 +105,22 @@ fn add_escaped(html: &mut Text, text: &str) {
     }
 }
 
-/// Adds the name of a file to Markdown as the target of a link.
-fn add_target(markdown: &mut Text, name: &str) {
+/// Adds the name of a file as the target of a link. `./` keeps a name with a colon from being read as a scheme.
+fn add_target(text: &mut Text, name: &str) {
+    text.push_str("./");
     for character in name.chars() {
         match character {
-            ' ' => markdown.push_str("%20"),
-            '(' => markdown.push_str("%28"),
-            ')' => markdown.push_str("%29"),
-            _ => markdown.push(character),
+            ' ' => text.push_str("%20"),
+            '"' => text.push_str("%22"),
+            '#' => text.push_str("%23"),
+            '%' => text.push_str("%25"),
+            '&' => text.push_str("%26"),
+            '(' => text.push_str("%28"),
+            ')' => text.push_str("%29"),
+            '<' => text.push_str("%3C"),
+            '>' => text.push_str("%3E"),
+            '?' => text.push_str("%3F"),
+            _ => text.push(character),
         }
     }
 }
@@ -154,7 +158,7 @@ fn add_link(markdown: &mut Text, file: &str, line: usize) {
 /// Adds a link to a line of a file to HTML.
 fn add_anchor(html: &mut Text, file: &str, line: usize) {
     html.push_str("<a href=\"");
-    add_escaped(html, file);
+    add_target(html, file);
     html.push_str("#L");
     html.number(line);
     html.push_str("\">");
@@ -178,10 +182,9 @@ impl Page {
             markdown: Text::new(alloc),
             html: Text::new(alloc),
         };
-        page.html.push_str(HEAD);
-        page.html.push_str("<title>");
+        page.html.template(TO_TITLE);
         add_escaped(&mut page.html, title);
-        page.html.push_str("</title></head><body>\n");
+        page.html.template(TO_BODY);
         page.heading(1, &[Part::Text(title)]);
         page
     }
@@ -320,7 +323,7 @@ impl Page {
     /// `Memory` if an allocation failed.
     pub fn finish(self) -> Result<Pages, Memory> {
         let Page { markdown, mut html } = self;
-        html.push_str("</body></html>\n");
+        html.template(TO_END);
         if markdown.is_refused || html.is_refused {
             return Err(Memory);
         }

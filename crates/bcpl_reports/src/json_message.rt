@@ -3,6 +3,7 @@
 use crate::json_place::{Place, place_of};
 use bc_word::Memory;
 use bcpl_messages::{Message, Named, Note};
+use bcpl_places::LineIndex;
 use serde_json::{Value, json};
 use std::alloc::Global;
 
@@ -47,16 +48,26 @@ fn at_place(alloc: Global, place: Place<'_>, sentence: &str) -> Result<Value, Me
 }
 
 /// A related place.
-fn related(alloc: Global, named: Named<'_, '_>, note: &Note) -> Result<Value, Memory> {
-    let place = place_of(alloc, named, note.span)?;
+fn related(
+    alloc: Global,
+    named: Named<'_, '_>,
+    index: &mut LineIndex,
+    note: &Note,
+) -> Result<Value, Memory> {
+    let place = place_of(alloc, named, index, note.span)?;
     at_place(alloc, place, note.sentence.as_str())
 }
 
 /// The related places of a message.
-fn all_related(alloc: Global, named: Named<'_, '_>, message: &Message) -> Result<Value, Memory> {
+fn all_related(
+    alloc: Global,
+    named: Named<'_, '_>,
+    index: &mut LineIndex,
+    message: &Message,
+) -> Result<Value, Memory> {
     let mut found = Vec::new(alloc);
     for note in &message.notes {
-        found.push(related(alloc, named, note)?)?;
+        found.push(related(alloc, named, index, note)?)?;
     }
     Ok(Value::from(found))
 }
@@ -81,13 +92,12 @@ fn sentence_of(message: &Message) -> &str {
 /// A message that has a place.
 fn placed(
     alloc: Global,
-    named: Named<'_, '_>,
     label: Label<'_>,
     message: &Message,
     place: Place<'_>,
+    related: Value,
 ) -> Result<Value, Memory> {
     let help = help_of(alloc, message)?;
-    let related = all_related(alloc, named, message)?;
     let value = json!(in alloc; {
         "severity": label.severity.name(),
         "code": label.code,
@@ -105,12 +115,11 @@ fn placed(
 /// A message that has no place.
 fn unplaced(
     alloc: Global,
-    named: Named<'_, '_>,
     label: Label<'_>,
     message: &Message,
+    related: Value,
 ) -> Result<Value, Memory> {
     let help = help_of(alloc, message)?;
-    let related = all_related(alloc, named, message)?;
     let value = json!(in alloc; {
         "severity": label.severity.name(),
         "code": label.code,
@@ -121,19 +130,21 @@ fn unplaced(
     Ok(value)
 }
 
-/// The line with a message as a JSON object. Returns `Memory` if an allocation fails.
+/// The line with a message as a JSON object. The index has the lines of the sources. Returns `Memory` if an allocation fails.
 pub fn message_line(
     alloc: Global,
     named: Named<'_, '_>,
+    index: &mut LineIndex,
     label: Label<'_>,
     message: &Message,
 ) -> Result<String, Memory> {
+    let related = all_related(alloc, named, index, message)?;
     let value = match message.span {
         Some(span) => {
-            let place = place_of(alloc, named, span)?;
-            placed(alloc, named, label, message, place)?
+            let place = place_of(alloc, named, index, span)?;
+            placed(alloc, label, message, place, related)?
         }
-        None => unplaced(alloc, named, label, message)?,
+        None => unplaced(alloc, label, message, related)?,
     };
     let mut line = value.to_string(alloc)?;
     line.push_str("\n")?;

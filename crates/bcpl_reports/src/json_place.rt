@@ -3,7 +3,7 @@
 use bc_lex::Source;
 use bc_word::Memory;
 use bcpl_messages::Named;
-use bcpl_places::{Span, column_at, line_at};
+use bcpl_places::{LineIndex, Span, column_at};
 use std::alloc::Global;
 
 /// A place in a file. Lines and columns are counted from 1.
@@ -34,11 +34,16 @@ fn column(alloc: Global, text: &[u8], start: usize, at: usize) -> Result<u64, Me
     Ok(column as u64)
 }
 
-/// The place of a span. Returns `Memory` if an allocation fails.
-pub fn place_of<'a>(alloc: Global, named: Named<'a, '_>, span: Span) -> Result<Place<'a>, Memory> {
+/// The place of a span. The index has the lines of the sources. Returns `Memory` if an allocation fails.
+pub fn place_of<'a>(
+    alloc: Global,
+    named: Named<'a, '_>,
+    index: &mut LineIndex,
+    span: Span,
+) -> Result<Place<'a>, Memory> {
     let text = text_of(named.sources, span.file);
     let at = span.start.min(text.len());
-    let line = line_at(text, at);
+    let line = index.line(alloc, span.file, text, at)?;
     let end = span.end.min(line.end).max(at);
     let file = match named.paths.get(span.file) {
         Some(path) => *path,

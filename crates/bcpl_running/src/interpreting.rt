@@ -4,14 +4,14 @@ ghost use Rattle.std.specs.Prelude.{◌<◌, length, All, IfOk};
 ghost use Rattle.bc_lex.specs.Files.{files_of};
 ghost use Rattle.bc_interpret_sources.specs.Programs.{IsImageOf};
 
-use crate::running::{Ran, Streams, lost_in, streams_of};
+use crate::running::{DeviceStreams, Ran, lost_in, streams_of};
 use crate::strict::interpret_strictly;
 use bc_build::{Built, build_keeping};
 use bc_interpret_sources::{
     BuiltProgram as Sections, Cause as Access, Ending, Interpreted, Outcome, interpret,
     interpret_observed,
 };
-use bc_machine::Streams as MachineStreams;
+use bc_machine::Streams;
 use bc_machine_defs::End;
 use bc_word::Memory;
 use bcpl_cli::{Cause, Clean, Failure, InterpretOrder, ProgramOrder, Wild, load_sources};
@@ -21,6 +21,7 @@ use bcpl_sources::{
     Accepted, Gathered, Program, RunConsole, RunStreams, error_lines, print_messages, refused,
     unfinished, warnings_on,
 };
+use bcpl_streams::ClosableStreams;
 use bcpl_warnings::loop_around;
 use bcpl_wild::{Met, ProgressLine, Stand, placed_message, wild_message};
 use std::alloc::Global;
@@ -115,7 +116,7 @@ pub fn built_with_warnings<'s, E: Write + Drop>(
 
 /// Runs a program by its meaning. On a terminal that shows messages a line shows how far it is; `is_shared` says that the program
 /// writes to that terminal too.
-fn interpreted_on<S: MachineStreams, E: Write + Drop>(
+fn interpreted_on<S: Streams, E: Write + Drop>(
     alloc: Global,
     run: &Sections<'_>,
     streams: &mut S,
@@ -172,7 +173,7 @@ pub fn program_streams<F: Files, R: Read + Drop, O: Write + Drop>(
     alloc: Global,
     order: &ProgramOrder<'_>,
     streams: RunStreams<R, O>,
-) -> Result<Streams<R, O, F::File>, Failure> {
+) -> Result<DeviceStreams<R, O, F::File>, Failure> {
     let (inputs, outputs) = (order.inputs.as_slice(), order.outputs.as_slice());
     streams_of(rt, alloc, streams.on_source(), inputs, outputs)
 }

@@ -6,17 +6,17 @@ ghost use Rattle.bcpl_cli.specs.Statuses.{unexplained};
 ghost use Rattle.bcpl_cli.specs.declared.failure.Cause.TheVariants as causes;
 
 use crate::watched_run::{RecordFiles, Records, is_watched, used_by, window_of};
-use bc_machine::{Machine, Named, StreamsError};
+use bc_machine::{Machine, Named, Streams, StreamsError};
 use bc_machine_defs::End;
 use bc_word::{Memory, Word};
-use bcpl_cli::{AtomicFile, Binding, Cause, Failure, RunOrder, WatchOrder};
+use bcpl_cli::{AtomicFile, Binding, Cause, Failure, RunOrder, WatchOrder, is_folder};
 use bcpl_reports::{Stop, Text, ended_lines, stream_lines};
 use bcpl_sources::{
     LinkedProgram, Remark, RunStreams, Sink, Source, TextFile, add_unless_failed, linked_program,
     named_routines, program_of, read_texts, routines_at, standard_text, texts_of, unfinished,
     with_explanation,
 };
-use bcpl_streams::NotedStreams;
+use bcpl_streams::{ClosableStreams, Folder, FoundStreams, NotedStreams};
 use bcpl_trace::{Nowhere, ProfiledProgram, Watch, profile, run_image, run_watched};
 use std::alloc::Global;
 use std::fs;
@@ -124,7 +124,7 @@ fn outputs<F: Files, O: Write + Drop>(
 
 /// The result of a run after its streams are closed. If it finished but an output can't be flushed, that is a device
 /// failure.
-pub fn closed<R: Read, W: Write>(streams: &mut NotedStreams<R, W>, end: End) -> Result<(), Failure>
+pub fn closed<S: ClosableStreams>(streams: &mut S, end: End) -> Result<(), Failure>
     ensures finished { IfOk result (λ _. end ≡ Finished) }
     ensures ended { end ≢ Finished → result ≡ Err (unexplained (causes.Ended end)) }
     ensures device { IfErr result (λ f. end ≡ Finished → f ≡ unexplained (causes.Ended Device)) }
@@ -190,11 +190,11 @@ fn explain_end(
 }
 
 /// The result of a run, whose streams it closes.
-fn result_of<R: Read, W: Write>(
+fn result_of<S: ClosableStreams>(
     alloc: Global,
     setup: &RunSetup<'_, '_>,
     machine: &Machine,
-    streams: &mut NotedStreams<R, W>,
+    streams: &mut S,
     end: &End,
 ) -> Result<(), Failure> {
     match closed(streams, *end) {
@@ -204,10 +204,10 @@ fn result_of<R: Read, W: Write>(
 }
 
 /// Runs a program over these streams, and closes them.
-fn run_linked<R: Read, W: Write>(
+fn run_linked<S: Streams + ClosableStreams>(
     alloc: Global,
     setup: &RunSetup<'_, '_>,
-    streams: &mut NotedStreams<R, W>,
+    streams: &mut S,
 ) -> Result<(), Failure> {
     let (machine, end) = run_image(alloc, &setup.program.image, streams, setup.steps)?;
     result_of(alloc, setup, &machine, streams, &end)
@@ -222,11 +222,7 @@ pub struct Ran {
 }
 
 /// What a run over these streams lost, as lines; empty if warnings aren't printed, or if memory runs out.
-pub fn lost_in<R: Read, W: Write>(
-    alloc: Global,
-    streams: &NotedStreams<R, W>,
-    warns: bool,
-) -> String {
+pub fn lost_in<S: ClosableStreams>(alloc: Global, streams: &S, warns: bool) -> String {
     if !warns {
         return String::new(alloc);
     }
@@ -237,10 +233,10 @@ pub fn lost_in<R: Read, W: Write>(
 }
 
 /// Runs a machine from its start and records what it does. The trace, if any, goes to its file.
-fn run_recorded<R: Read, W: Write, T: Write + Drop>(
+fn run_recorded<S: Streams, T: Write + Drop>(
     machine: &mut Machine,
     watch: &mut Watch,
-    streams: &mut NotedStreams<R, W>,
+    streams: &mut S,
     steps: u64,
     trace: &mut Option<AtomicFile<T>>,
 ) -> End
@@ -319,12 +315,12 @@ fn first_failure(
 }
 
 /// Like `run_linked`, and records what the run does. Fails if nothing was run.
-fn watch_linked<F: Files, R: Read, W: Write>(
+fn watch_linked<F: Files, S: Streams + ClosableStreams>(
     rt: &F,
     alloc: Global,
     setup: &RunSetup<'_, '_>,
     order: &WatchOrder<'_>,
-    streams: &mut NotedStreams<R, W>,
+    streams: &mut S,
 ) -> Result<Ran, Failure> {
     let image = &setup.program.image;
     let mut watch = Watch::new(alloc, window_of(order))?;
@@ -352,7 +348,7 @@ fn watch_linked<F: Files, R: Read, W: Write>(
 }
 
 /// The streams of a run over devices.
-pub type Streams<R, O, F> = NotedStreams<BufReader<Source<R, F>>, BufWriter<Sink<O, F>>>;
+pub type DeviceStreams<R, O, F> = NotedStreams<BufReader<Source<R, F>>, BufWriter<Sink<O, F>>>;
 
 /// The streams of a run over this input and output and these files.
 pub fn streams_of<F: Files, R: Read + Drop, O: Write + Drop>(
@@ -361,7 +357,7 @@ pub fn streams_of<F: Files, R: Read + Drop, O: Write + Drop>(
     streams: RunStreams<Source<R, F::File>, O>,
     inputs_of: &[Binding<'_>],
     outputs_of: &[Binding<'_>],
-) -> Result<Streams<R, O, F::File>, Failure> {
+) -> Result<DeviceStreams<R, O, F::File>, Failure> {
     let is_terminal = streams.is_terminal;
     let (input, out) = streams.split();
     let inputs = inputs(rt, alloc, input, inputs_of)?;
@@ -517,15 +513,65 @@ pub fn run<F: Files, R: Read + Drop, O: Write + Drop>(
     }
 }
 
+/// Fails if the folder of `--files` isn't there.
+fn check_folder<F: Files>(rt: &F, alloc: Global, order: &RunOrder<'_>) -> Result<(), Failure> {
+    match order.folder {
+        Some(folder) if !is_folder(rt, folder) => {
+            let reason = "--files names this folder, but there is no such folder";
+            Err(Failure::file_since(alloc, folder, reason))
+        }
+        _ => Ok(()),
+    }
+}
+
 /// Opens the streams of a run.
 fn run_streams<F: Files, R: Read + Drop, O: Write + Drop>(
     rt: &F,
     alloc: Global,
     order: &RunOrder<'_>,
     streams: RunStreams<R, O>,
-) -> Result<Streams<R, O, F::File>, Failure> {
+) -> Result<DeviceStreams<R, O, F::File>, Failure> {
+    check_folder(rt, alloc, order)?;
     let (inputs, outputs) = (order.inputs.as_slice(), order.outputs.as_slice());
     streams_of(rt, alloc, streams.on_source(), inputs, outputs)
+}
+
+/// Runs a linked program over these streams. Fails if nothing was run.
+fn run_over<F: Files, S: Streams + ClosableStreams>(
+    rt: &F,
+    alloc: Global,
+    order: &RunOrder<'_>,
+    setup: &RunSetup<'_, '_>,
+    streams: &mut S,
+) -> Result<Ran, Failure> {
+    if is_watched(&order.watch) {
+        return watch_linked(rt, alloc, setup, &order.watch, streams);
+    }
+    let done = run_linked(alloc, setup, streams);
+    Ok(Ran {
+        done,
+        used: String::new(alloc),
+        lost: lost_in(alloc, streams, setup.explains),
+    })
+}
+
+/// Runs a linked program over these streams and the files of the folder that is ordered, if any. Fails if nothing was run.
+fn run_on<F: Files, S: Streams + ClosableStreams + Drop>(
+    rt: &F,
+    alloc: Global,
+    order: &RunOrder<'_>,
+    setup: &RunSetup<'_, '_>,
+    streams: S,
+) -> Result<Ran, Failure> {
+    let mut streams = streams;
+    let Some(path) = order.folder else {
+        return run_over(rt, alloc, order, setup, &mut streams);
+    };
+    let inputs = order.inputs.len().saturating_add(1);
+    let outputs = order.outputs.len().saturating_add(1);
+    let folder = Folder::new(rt, alloc, path);
+    let mut streams = FoundStreams::new(streams, (inputs, outputs), folder);
+    run_over(rt, alloc, order, setup, &mut streams)
 }
 
 /// Runs a linked program.
@@ -537,18 +583,7 @@ fn run_program<F: Files, R: Read + Drop, O: Write + Drop>(
     streams: RunStreams<R, O>,
 ) -> Result<Ran, Failure> {
     match run_streams(rt, alloc, order, streams) {
-        Ok(mut streams) => {
-            if is_watched(&order.watch) {
-                watch_linked(rt, alloc, setup, &order.watch, &mut streams)
-            } else {
-                let done = run_linked(alloc, setup, &mut streams);
-                Ok(Ran {
-                    done,
-                    used: String::new(alloc),
-                    lost: lost_in(alloc, &streams, setup.explains),
-                })
-            }
-        }
+        Ok(streams) => run_on(rt, alloc, order, setup, streams),
         Err(failure) => Err(explain_streams(alloc, order, failure, setup.explains)),
     }
 }

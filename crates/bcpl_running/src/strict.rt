@@ -11,6 +11,7 @@ use bc_machine::Streams;
 use bcpl_cli::{Cause, Failure, InterpretOrder, Strict};
 use bcpl_debug::all_resolved;
 use bcpl_sources::{Gathered, RunConsole};
+use bcpl_streams::ClosableStreams;
 use bcpl_wild::{Stand, WildProgram, named_globals, strict_message};
 use std::alloc::Global;
 use std::io::{Read, Write};

@@ -1,16 +1,16 @@
 //! Explanations of refused sources, and warnings about accepted ones.
 
 use bc_build::{BuildError, ParseError, Parsed, ScopeFault, build};
+use bc_lex::Token;
 use bc_text_items::{Item, Segment};
 use bc_word::Memory;
 use bcpl_advice::{
-    FurtherFault, advised, faults_after_lexical, further_faults, further_scope_faults,
-    likely_meaning,
+    FurtherFault, advised, faults_after_lexical, further_faults, further_scope_faults, likely_among,
 };
 use bcpl_cli::BuildLine;
 use bcpl_index::unknown_names;
-use bcpl_messages::{Message, Named, Note, message_lines, message_of, shown};
-use bcpl_places::Span;
+use bcpl_messages::{Message, Named, Note, library_names, message_lines_by, message_of, shown};
+use bcpl_places::{LineIndex, Span};
 use bcpl_reports::{Label, Severity, message_line, text_objects};
 use bcpl_warnings::{all_warnings, likely_starts, warning_lines};
 use std::alloc::Global;
@@ -65,19 +65,31 @@ pub fn error_lines(
     code: &str,
     message: Message,
 ) -> Result<String, Memory> {
+    let mut index = LineIndex::new(alloc);
+    error_lines_by(alloc, program, &mut index, code, message)
+}
+
+/// The same for one of several errors. The index has the lines of the program's sources.
+fn error_lines_by(
+    alloc: Global,
+    program: &Program<'_, '_>,
+    index: &mut LineIndex,
+    code: &str,
+    message: Message,
+) -> Result<String, Memory> {
     if program.is_json {
         let label = Label {
             severity: Severity::Error,
             code,
         };
-        return message_line(alloc, program.named, label, &message);
+        return message_line(alloc, program.named, index, label, &message);
     }
     let mut message = message;
     if message.span.is_some() {
         let sentence = message.sentence.as_str();
         message.sentence = format!(in alloc; "error: {sentence}")?;
     }
-    message_lines(alloc, program.named, &message)
+    message_lines_by(alloc, program.named, index, &message)
 }
 
 /// The text at a place.
@@ -92,29 +104,29 @@ fn text_at<'s>(program: &Program<'_, 's>, span: Span) -> &'s [u8] {
 /// listed.
 fn unknown_ending(
     alloc: Global,
-    program: &Program<'_, '_>,
-    main: usize,
+    known: &[Token<'_>],
     name: &[u8],
     left: usize,
 ) -> Result<String, Memory> {
-    let mut ending = likely_meaning(alloc, program.named.sources, main, name)?;
+    let mut ending = likely_among(alloc, known, name)?;
     if left > 0 {
         write!(ending, "; --errors all lists {left} more")?;
     }
     Ok(ending)
 }
 
-/// The note on a further name that isn't declared. It says that `left` names after it aren't listed.
+/// The note on a further name that isn't declared. `known` has the library's names. It says that `left` names after it aren't
+/// listed.
 fn unknown_note(
     alloc: Global,
     program: &Program<'_, '_>,
-    main: usize,
+    known: &[Token<'_>],
     span: Span,
     left: usize,
 ) -> Result<Note, Memory> {
     let text = text_at(program, span);
     let name = shown(alloc, text)?;
-    let ending = unknown_ending(alloc, program, main, text, left)?;
+    let ending = unknown_ending(alloc, known, text, left)?;
     let ending = ending.as_str();
     let sentence = format!(in alloc; "{name} isn't declared either{ending}")?;
     Ok(Note { span, sentence })
@@ -128,12 +140,13 @@ fn add_unknown(
     message: &mut Message,
 ) -> Result<(), Memory> {
     let names = unknown_names(alloc, program.named.sources, main)?;
+    let known = library_names(alloc, program.named.sources, main)?;
     let most = program.most(MOST_ERRORS).saturating_sub(1);
     let listed = names.len().saturating_sub(1).min(most);
     let left = names.len().saturating_sub(1).saturating_sub(listed);
     for (number, span) in names.iter().enumerate().skip(1).take(most) {
         let left = if number == listed { left } else { 0 };
-        let note = unknown_note(alloc, program, main, *span, left)?;
+        let note = unknown_note(alloc, program, known.as_slice(), *span, left)?;
         message.notes.push(note)?;
     }
     Ok(())
@@ -176,12 +189,13 @@ fn add_fault(
     text: &mut String,
     alloc: Global,
     program: &Program<'_, '_>,
+    index: &mut LineIndex,
     fault: FurtherFault,
 ) -> Result<(), Memory> {
     let FurtherFault { error, message } = fault;
     let line = BuildLine(&error);
     let code = format!(in alloc; "{line}")?;
-    let lines = error_lines(alloc, program, code.as_str(), message)?;
+    let lines = error_lines_by(alloc, program, index, code.as_str(), message)?;
     Ok(text.push_str(lines.as_str())?)
 }
 
@@ -195,8 +209,9 @@ fn add_further(
     let most = program.most(MOST_ERRORS).saturating_sub(1);
     let faults = faults_after(alloc, program, fault, most)?;
     let is_cut = faults.len() >= most;
+    let mut index = LineIndex::new(alloc);
     for fault in faults {
-        add_fault(text, alloc, program, fault)?;
+        add_fault(text, alloc, program, &mut index, fault)?;
     }
     if is_cut && !program.is_json {
         text.push_str(MORE)?;
@@ -342,8 +357,9 @@ fn warning_objects(
         code: "",
     };
     let mut text = String::new(alloc);
+    let mut index = LineIndex::new(alloc);
     for message in messages {
-        let line = message_line(alloc, named, label, message)?;
+        let line = message_line(alloc, named, &mut index, label, message)?;
         text.push_str(line.as_str())?;
     }
     Ok(text)

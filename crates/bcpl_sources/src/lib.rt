@@ -27,6 +27,7 @@ pub use source_files::Gathered;
 pub use standard::{Console, RunConsole, RunStreams, Standard, Terminals, explains_at};
 pub use taming::{is_tame_built, tame};
 pub use texts::{
-    LinkedProgram, TextFile, add_unless_failed, linked_program, or_memory_failure, program_of,
-    read_texts, readable, segments_of, standard_text, texts_of, with_explanation,
+    LinkedProgram, TextFile, add_unless_failed, linked_program, linked_texts, or_memory_failure,
+    program_of, read_texts, read_texts_or_input, readable, segments_of, standard_text, texts_of,
+    with_explanation,
 };

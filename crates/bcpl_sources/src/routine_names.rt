@@ -64,11 +64,23 @@ fn are_same(built: &[Segment], listed: &[Segment]) -> bool {
     true
 }
 
-/// The last segments of a program, as many as are listed, if they are the listed ones.
-fn listed_part<'b>(built: &'b [Segment], listed: &[Segment]) -> Option<&'b [Segment]> {
+/// The last segments of a program that are the last listed ones: as many as are listed or, if the listed library was cut,
+/// those of its `files` sources. `None` if they are others.
+fn listed_part<'b>(
+    built: &'b [Segment],
+    listed: &[Segment],
+    files: usize,
+) -> Option<&'b [Segment]> {
     let from = built.len().checked_sub(listed.len())?;
     let part = built.get(from..)?;
     if are_same(part, listed) {
+        return Some(part);
+    }
+    // `build --lean` cuts the segments of the library and leaves the others as they are.
+    let own = built.len().checked_sub(files)?;
+    let part = built.get(own..)?;
+    let last = listed.get(own..)?;
+    if from == 0 && are_same(part, last) {
         Some(part)
     } else {
         None
@@ -201,7 +213,15 @@ fn routines_of_program(
     found
 }
 
-/// The routines of the listed segments, if these sources were built to segments that end with them.
+/// Moves notes to the segments that come `count` later.
+fn move_by(notes: &mut [Remark], count: usize) {
+    for note in notes.iter_mut() {
+        note.segment = note.segment.saturating_add(count);
+    }
+}
+
+/// The routines of the listed segments, if these sources were built to segments that end with them. Of a library that was
+/// cut there are none.
 fn routines_of_listed(
     alloc: Global,
     gathered: &Gathered<'_, '_>,
@@ -209,10 +229,15 @@ fn routines_of_listed(
     built: &[Segment],
     listed: &[Segment],
 ) -> Result<Vec<Remark>, Failure> {
-    match listed_part(built, listed) {
+    match listed_part(built, listed, given.files.len()) {
         Some(part) => {
             let skipped = built.len().saturating_sub(part.len());
-            routines_of_program(alloc, gathered, part, skipped)
+            let mut found = routines_of_program(alloc, gathered, part, skipped)?;
+            move_by(
+                found.as_mut_slice(),
+                listed.len().saturating_sub(part.len()),
+            );
+            Ok(found)
         }
         None => {
             let path = given.files.last().copied().unwrap_or("");

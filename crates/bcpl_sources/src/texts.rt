@@ -9,7 +9,7 @@ use bc_run::after_primitives;
 use bc_text::Reader;
 use bc_text_items::Segment;
 use bc_word::Memory;
-use bcpl_cli::{Cause, FILE_LIMIT, Failure, contents, shown_path};
+use bcpl_cli::{Cause, FILE_LIMIT, Failure, StandardInput, contents};
 use bcpl_reports::{Text, link_lines, text_lines};
 use std::alloc::Global;
 use std::io;
@@ -46,11 +46,30 @@ impl Drop for TextFile {
     }
 }
 
-/// Reads the file with this path.
-fn text_file<F: Files>(rt: &F, alloc: Global, path: &str) -> Result<TextFile, Failure> {
-    let bytes = contents(rt, alloc, path)?;
-    let shown = shown_path(alloc, path)?;
+/// Takes standard input for `-`, or reads the file with this path.
+fn text_file<F: Files>(
+    rt: &F,
+    alloc: Global,
+    standard: &StandardInput,
+    path: &str,
+) -> Result<TextFile, Failure> {
+    let bytes = standard.contents(rt, alloc, path)?;
+    let shown = standard.shown(alloc, path)?;
     Ok(TextFile { shown, bytes })
+}
+
+/// Reads the files with these paths, of which `-` is standard input if that was read.
+pub fn read_texts_or_input<F: Files>(
+    rt: &F,
+    alloc: Global,
+    standard: &StandardInput,
+    paths: &[&str],
+) -> Result<Vec<TextFile>, Failure> {
+    let mut all = Vec::new(alloc);
+    for path in paths {
+        add_unless_failed(&mut all, text_file(rt, alloc, standard, path))?;
+    }
+    Ok(all)
 }
 
 /// Reads the files with these paths.
@@ -59,11 +78,7 @@ pub fn read_texts<F: Files>(
     alloc: Global,
     paths: &[&str],
 ) -> Result<Vec<TextFile>, Failure> {
-    let mut all = Vec::new(alloc);
-    for path in paths {
-        add_unless_failed(&mut all, text_file(rt, alloc, path))?;
-    }
-    Ok(all)
+    read_texts_or_input(rt, alloc, &StandardInput::none(), paths)
 }
 
 /// The content of the file with this path, or `None` if it can't be read.
@@ -182,6 +197,27 @@ fn explain_text(alloc: Global, failure: Failure, text: Text<'_>) -> Failure {
     with_explanation(alloc, failure, lines)
 }
 
+/// Adds the segments of these texts, and for each text the number of all segments after it. If `explains`, explains a refusal.
+fn add_texts(
+    alloc: Global,
+    segments: &mut Vec<Segment>,
+    ends: &mut Vec<usize>,
+    texts: &[Text<'_>],
+    explains: bool,
+) -> Result<(), Failure> {
+    for text in texts {
+        if let Err(failure) = add_segments(alloc, segments, text.bytes) {
+            return Err(if explains {
+                explain_text(alloc, failure, *text)
+            } else {
+                failure
+            });
+        }
+        ends.push(segments.len())?;
+    }
+    Ok(())
+}
+
 /// The segments of these texts, in order. If `explains`, explains a refusal.
 pub fn segments_of(
     alloc: Global,
@@ -189,15 +225,8 @@ pub fn segments_of(
     explains: bool,
 ) -> Result<Vec<Segment>, Failure> {
     let mut segments = Vec::new(alloc);
-    for text in texts {
-        if let Err(failure) = add_segments(alloc, &mut segments, text.bytes) {
-            return Err(if explains {
-                explain_text(alloc, failure, *text)
-            } else {
-                failure
-            });
-        }
-    }
+    let mut ends = Vec::new(alloc);
+    add_texts(alloc, &mut segments, &mut ends, texts, explains)?;
     Ok(segments)
 }
 
@@ -240,7 +269,20 @@ pub fn linked_program(
     texts: &[Text<'_>],
     explains: bool,
 ) -> Result<LinkedProgram, Failure> {
-    let segments = after_primitives(alloc, segments_of(alloc, texts, explains)?)?;
+    let mut ends = Vec::new(alloc);
+    linked_texts(alloc, texts, &mut ends, explains)
+}
+
+/// The same. Adds for each text the number of the segments, without the primitives, up to its last one.
+pub fn linked_texts(
+    alloc: Global,
+    texts: &[Text<'_>],
+    ends: &mut Vec<usize>,
+    explains: bool,
+) -> Result<LinkedProgram, Failure> {
+    let mut own = Vec::new(alloc);
+    add_texts(alloc, &mut own, ends, texts, explains)?;
+    let segments = after_primitives(alloc, own)?;
     match link(alloc, segments.as_slice()) {
         Ok(image) => Ok(LinkedProgram { segments, image }),
         Err(fault) => Err(unlinked(alloc, texts, segments.as_slice(), &fault, explains)),

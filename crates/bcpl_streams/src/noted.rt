@@ -3,6 +3,7 @@
 ghost use Rattle.std.specs.Prelude.{◌≡◌, ◌≢◌, None, Some, IfOk, IfErr, OnOk, OnErr};
 ghost use Rattle.bc_machine.specs.FileContent.{file_content, IsKnown, file_failures};
 
+use crate::closable::ClosableStreams;
 use crate::lost::Lost;
 use crate::stream_name::StreamName;
 use bc_machine::{DeviceFault, FileStreams, Named, Streams, StreamsError};
@@ -131,22 +132,14 @@ impl<R: Read, W: Write> NotedStreams<R, W> {
             output: SideNotes::new(),
         })
     }
+}
 
-    /// Flushes every output, even after one has failed.
-    ///
-    /// # Errors
-    ///
-    /// `DeviceFault` if one fails.
-    pub fn close(&mut self) -> Result<(), DeviceFault> {
+impl<R: Read, W: Write> ClosableStreams for NotedStreams<R, W> {
+    fn close(&mut self) -> Result<(), DeviceFault> {
         self.streams.close()
     }
 
-    /// What the run lost: for each kind a line, and one with help, which begins with blanks. Empty if it lost nothing.
-    ///
-    /// # Errors
-    ///
-    /// `Memory` if an allocation failed.
-    pub fn lost_lines(&self, alloc: Global) -> Result<String, Memory> {
+    fn lost_lines(&self, alloc: Global) -> Result<String, Memory> {
         let mut lines = String::new(alloc);
         let (input, output) = (self.input.lost, self.output.lost);
         input.add_lines(alloc, &mut lines, Side::Input)?;

@@ -1,8 +1,9 @@
 //! Warnings on the address of a local that is used when the local is gone.
 
+use crate::found::Found;
 use crate::known::Known;
+use bcpl_catalogue::ids::LOST_CELLS;
 use bcpl_index::{Form, Kind, Sort};
-use bcpl_messages::Draft;
 
 /// The declaration whose address an expression is, if that is of a routine's frame.
 fn local_of(known: &Known<'_, '_>, at: usize) -> Option<usize> {
@@ -17,38 +18,20 @@ fn local_of(known: &Known<'_, '_>, at: usize) -> Option<usize> {
     Some(declared.node)
 }
 
-/// Warns that the address of a local is returned.
-fn say_returned(draft: &mut Draft, known: &Known<'_, '_>, at: usize) {
-    known.begin(draft, at, at);
-    draft.say(
-        "{} is the address of cells that are gone after this",
-        &[known.shown(at)],
-    );
-    draft.help(
-        "take the vector as a parameter from the caller, or from GETVEC of EXTHDR",
-        &[],
-    );
-}
-
-/// Warns of RESULTIS with the address of a local of its VALOF. Returns whether it is one.
-pub fn warns_of_result(draft: &mut Draft, known: &Known<'_, '_>, at: usize) -> bool {
+/// RESULTIS with the address of a local of its VALOF.
+pub fn check_result(known: &Known<'_, '_>, at: usize) -> Option<Found> {
     let tree = known.tree;
     let value = tree.first(at);
-    let Some(node) = local_of(known, value) else {
-        return false;
-    };
-    let Some(valof) = known.valof_of(at) else {
-        return false;
-    };
+    let node = local_of(known, value)?;
+    let valof = known.valof_of(at)?;
     let outer = match tree.form_of_parent(valof) {
         Form::Function => tree.parent(valof),
         _ => valof,
     };
     if !tree.contains(outer, node) {
-        return false;
+        return None;
     }
-    say_returned(draft, known, value);
-    true
+    Some(Found::new(LOST_CELLS, value))
 }
 
 /// The name of a routine.
@@ -69,27 +52,21 @@ fn is_lasting(known: &Known<'_, '_>, at: usize) -> bool {
     }
 }
 
-/// Warns of a local's address that is stored in a global or static, if the routine then ends without a further call.
-/// Returns whether there is one.
-pub fn warns_of_assignment(draft: &mut Draft, known: &Known<'_, '_>, at: usize) -> bool {
+/// A local's address that is stored in a global or static, if the routine then ends without a further call.
+pub fn check_assignment(known: &Known<'_, '_>, at: usize) -> Option<Found> {
     let tree = known.tree;
     let (place, value) = (tree.first(tree.first(at)), tree.first(tree.second(at)));
-    let Some(node) = local_of(known, value) else {
-        return false;
-    };
+    let node = local_of(known, value)?;
     let is_single = tree.end(place) == tree.second(at);
     if !is_single || !is_lasting(known, place) {
-        return false;
+        return None;
     }
-    let Some(routine) = known.routine_of(at) else {
-        return false;
-    };
+    let routine = known.routine_of(at)?;
     if name_of(known, routine) == b"START".as_slice()
         || known.flow.has_call(tree, tree.end(at), tree.end(routine))
         || !tree.contains(routine, node)
     {
-        return false;
+        return None;
     }
-    say_returned(draft, known, value);
-    true
+    Some(Found::new(LOST_CELLS, value))
 }

@@ -1,12 +1,16 @@
 //! Warnings on arithmetic that gives another number than meant: products that don't fit into a word, quotients that drop
 //! their fraction, and characters that are taken for the digits that they show.
 
+use crate::found::Found;
 use crate::kinds::is_relation;
 use crate::known::Known;
 use bc_parse_tree::BinaryOp;
 use bc_word::Word;
+use bcpl_catalogue::ids::{
+    CHARACTER_AND_NUMBER, CHARACTER_AS_DIGIT, DROPPED_FRACTION, LARGE_PRODUCT, LARGE_SUM,
+    LATE_PRODUCT,
+};
 use bcpl_index::{Form, Kind, Sort};
-use bcpl_messages::{Draft, Fill};
 
 /// A word as a signed number.
 pub fn signed(word: Word) -> i32 {
@@ -15,14 +19,6 @@ pub fn signed(word: Word) -> i32 {
         number.saturating_sub(65536)
     } else {
         number
-    }
-}
-
-/// Whether an expression is constant with this value.
-fn has_value(known: &Known<'_, '_>, at: usize, value: u16) -> bool {
-    match known.kinds.value(at) {
-        Some(word) => word.get() == value,
-        None => false,
     }
 }
 
@@ -66,19 +62,14 @@ fn is_too_large(known: &Known<'_, '_>, at: usize) -> bool {
     product < -32768 || product > most_of(known, at)
 }
 
-/// Warns of a sum of two positive numbers that is none, if one of them is a variable. Returns whether it is one.
-pub fn warns_of_total(draft: &mut Draft, known: &Known<'_, '_>, at: usize) -> bool {
-    let Some((left, right)) = operands_of(known, at) else {
-        return false;
-    };
+/// A sum of two positive numbers that is none, if one of them is a variable.
+pub fn check_total(known: &Known<'_, '_>, at: usize) -> Option<Found> {
+    let (left, right) = operands_of(known, at)?;
     let most = most_of(known, at);
     if left < 0 || right < 0 || most != 32767 || left.saturating_add(right) <= most {
-        return false;
+        return None;
     }
-    known.begin(draft, at, at);
-    draft.say("{} doesn't fit into 16 bits", &[known.shown(at)]);
-    draft.help("numbers are -32768 to 32767", &[]);
-    true
+    Some(Found::new(LARGE_SUM, at))
 }
 
 /// The number that a node is, if it is written out.
@@ -96,34 +87,22 @@ fn written_quotient(known: &Known<'_, '_>, at: usize) -> Option<(u16, u16)> {
     Some((left, right))
 }
 
-/// Warns of `5 / 9`, which is 0, and of `X * (9 / 5)`, in which the quotient is 1. Returns whether it is one.
-pub fn warns_of_fraction(draft: &mut Draft, known: &Known<'_, '_>, at: usize) -> bool {
-    let Some((left, right)) = written_quotient(known, at) else {
-        return false;
-    };
+/// `5 / 9`, which is 0, and `X * (9 / 5)`, in which the quotient is 1.
+pub fn check_fraction(known: &Known<'_, '_>, at: usize) -> Option<Found> {
+    let (left, right) = written_quotient(known, at)?;
     let is_factor = matches!(known.tree.form_of_parent(at), Form::Bin(BinaryOp::Multiply));
     // a quotient that is multiplied has a warning of its own
     let is_warned_of = is_factor && known.tree.is_first(at);
     if is_warned_of || right == 0 {
-        return false;
+        return None;
     }
     let quotient = left / right;
     if left % right == 0 || quotient > 0 && !is_factor {
-        return false;
+        return None;
     }
-    known.begin(draft, at, at);
-    draft.say(
-        "{} is {}: a quotient drops its fraction",
-        &[known.shown(at), Fill::Number(u64::from(quotient))],
-    );
-    draft.help(
-        "multiply first, as in X * {} / {}",
-        &[
-            known.shown(known.tree.first(at)),
-            known.shown(known.tree.second(at)),
-        ],
-    );
-    true
+    let (first, second) = known.sides(at);
+    let found = Found::new(DROPPED_FRACTION, at).with(first, second);
+    Some(found.counting(u64::from(quotient), 0))
 }
 
 /// Whether a quotient is one of two numbers and has a remainder.
@@ -142,33 +121,21 @@ fn drops_fraction(known: &Known<'_, '_>, quotient: usize) -> bool {
 fn is_late_product(known: &Known<'_, '_>, at: usize) -> bool {
     let tree = known.tree;
     let quotient = tree.first(at);
-    let is_percentage = has_value(known, tree.second(at), 100)
-        && !has_value(known, tree.second(quotient), 100);
+    let is_percentage = known.has_value(tree.second(at), 100)
+        && !known.has_value(tree.second(quotient), 100);
     matches!(tree.form(quotient), Form::Bin(BinaryOp::Divide))
         && (is_percentage || drops_fraction(known, quotient))
 }
 
-/// Warns of a product. Returns whether it does.
-pub fn warns_of_product(draft: &mut Draft, known: &Known<'_, '_>, at: usize) -> bool {
+/// A product.
+pub fn check_product(known: &Known<'_, '_>, at: usize) -> Option<Found> {
     if is_too_large(known, at) {
-        known.begin(draft, at, at);
-        draft.say("{} doesn't fit into 16 bits", &[known.shown(at)]);
-        draft.help(
-            "numbers are -32768 to 32767; MULDIV(A, B, C) of EXTHDR computes A*B/C with larger products",
-            &[],
-        );
-        return true;
+        Some(Found::new(LARGE_PRODUCT, at))
+    } else if is_late_product(known, at) {
+        Some(Found::new(LATE_PRODUCT, at))
+    } else {
+        None
     }
-    if is_late_product(known, at) {
-        known.begin(draft, at, at);
-        draft.say(
-            "the quotient drops its fraction before it is multiplied",
-            &[],
-        );
-        draft.help("multiply first, as in PART * 100 / ALL", &[]);
-        return true;
-    }
-    false
 }
 
 /// Whether an expression is a character, and isn't written as one.
@@ -176,25 +143,17 @@ fn is_read_character(known: &Known<'_, '_>, at: usize) -> bool {
     known.kinds.kind(at) == Kind::Character && !matches!(known.tree.form(at), Form::Character(_))
 }
 
-/// Warns of a sum of ten times something and a character, from which nothing is subtracted. Returns whether it is one.
-pub fn warns_of_digit(draft: &mut Draft, known: &Known<'_, '_>, at: usize) -> bool {
-    let tree = known.tree;
-    let (product, digit) = (tree.first(at), tree.second(at));
-    let is_tenfold = matches!(tree.form(product), Form::Bin(BinaryOp::Multiply))
-        && (has_value(known, tree.second(product), 10)
-            || has_value(known, tree.first(product), 10));
-    let is_reduced = matches!(tree.form_of_parent(at), Form::Bin(BinaryOp::Subtract));
+/// A sum of ten times something and a character, from which nothing is subtracted.
+pub fn check_digit(known: &Known<'_, '_>, at: usize) -> Option<Found> {
+    let (product, digit) = known.sides(at);
+    let (first, second) = known.sides(product);
+    let is_tenfold = matches!(known.form(product), Form::Bin(BinaryOp::Multiply))
+        && (known.has_value(second, 10) || known.has_value(first, 10));
+    let is_reduced = matches!(known.tree.form_of_parent(at), Form::Bin(BinaryOp::Subtract));
     if !is_tenfold || is_reduced || !is_read_character(known, digit) {
-        return false;
+        return None;
     }
-    let name = known.shown(digit);
-    known.begin(draft, digit, digit);
-    draft.say(
-        "{} is a character, whose code isn't the digit that it shows",
-        &[name],
-    );
-    draft.help("the number that a digit shows is {} - '0'", &[name]);
-    true
+    Some(Found::new(CHARACTER_AS_DIGIT, digit))
 }
 
 /// Whether a node is a number from 1 to 6 that is written out. Those from 7 to 9 may be meant as the codes of a bell, a backspace and a tab.
@@ -223,41 +182,21 @@ fn digit_case(known: &Known<'_, '_>, switch: usize) -> Option<usize> {
     found
 }
 
-/// Warns that a character is compared with the number of one digit at a node.
-fn say_compared(draft: &mut Draft, known: &Known<'_, '_>, character: usize, digit: usize) {
-    let number = known.shown(digit);
-    known.begin(draft, digit, digit);
-    draft.say(
-        "{} is a character, and {} is a number",
-        &[known.shown(character), number],
-    );
-    draft.help("the character that shows this digit is '{}'", &[number]);
-}
-
-/// Warns of a SWITCHON on a character whose CASEs are numbers of one digit. Returns whether it is one.
-pub fn warns_of_digit_cases(draft: &mut Draft, known: &Known<'_, '_>, at: usize) -> bool {
+/// A SWITCHON on a character whose CASEs are numbers of one digit.
+pub fn check_digit_cases(known: &Known<'_, '_>, at: usize) -> Option<Found> {
     let value = known.tree.first(at);
     if !is_read_character(known, value) {
-        return false;
+        return None;
     }
-    let Some(digit) = digit_case(known, at) else {
-        return false;
-    };
-    say_compared(draft, known, value, digit);
-    true
+    let digit = digit_case(known, at)?;
+    Some(Found::new(CHARACTER_AND_NUMBER, digit).of(value))
 }
 
-/// Warns of a character that is compared with a number of one digit. Returns whether it is.
-pub fn warns_of_compared_digit(
-    draft: &mut Draft,
-    known: &Known<'_, '_>,
-    at: usize,
-    sign: BinaryOp,
-) -> bool {
-    let (left, right) = (known.tree.first(at), known.tree.second(at));
+/// A character that is compared with a number of one digit.
+pub fn check_compared_digit(known: &Known<'_, '_>, at: usize, sign: BinaryOp) -> Option<Found> {
+    let (left, right) = known.sides(at);
     if !is_relation(sign) || !is_read_character(known, left) || !is_one_digit(known, right) {
-        return false;
+        return None;
     }
-    say_compared(draft, known, left, right);
-    true
+    Some(Found::new(CHARACTER_AND_NUMBER, right).of(left))
 }

@@ -1,10 +1,17 @@
 //! Warnings on calls: arguments of another kind than the library takes, and too many or too few of them.
 
+use crate::found::Found;
 use crate::known::Known;
 use bc_parse_tree::BinaryOp;
 use bc_word::Word;
+use bcpl_catalogue::ids::{
+    ARGUMENT_OF_OTHER_KIND, BYTES_OF_STRING, CELL_ADDRESS, CHARACTER_FOR_STRING, FURTHER_ARGUMENTS,
+    FURTHER_ARGUMENTS_READ, FURTHER_ARGUMENTS_WRITTEN, LAST_DIGIT, MISSING_ARGUMENTS,
+    NUMBER_FOR_STRING, PLAIN_FORMAT, REPEATED_STRING, ROUTINE_FOR_VALUE, SELECTED_INPUT,
+    SELECTED_OUTPUT, SIGNED_NUMBER, STRING_FOR_CHARACTER, STRING_FOR_NUMBER, STRING_OF_CHARACTER,
+    UNNAMED_ROUTINE_FOR_VALUE, VALUE_FOR_ADDRESS, VECTOR_FOR_VALUE,
+};
 use bcpl_index::{Declared, Fact, Form, Kind, Sort, Wanted, signature_of};
-use bcpl_messages::{Draft, Fill};
 
 /// Whether what is known of an argument doesn't fit what is wanted.
 pub fn is_other(wanted: Wanted, fact: &Fact) -> bool {
@@ -65,172 +72,121 @@ fn is_repeated_string(known: &Known<'_, '_>, at: usize) -> bool {
             || known.kinds.kind(tree.second(at)) == Kind::String)
 }
 
-/// The name of the routine that a node is, or its text if that isn't known.
-fn routine_name<'s>(known: &Known<'_, 's>, at: usize) -> &'s [u8] {
-    let declared = match known.kinds.fact(at).declaration() {
-        Some(index) => known.kinds.names.get(index),
-        None => None,
-    };
-    match declared {
-        Some(declared) => known.tree.text(declared.node),
-        None => known.text(at, at),
-    }
+/// The node that declares the routine that a node is, if that is known.
+fn routine_of(known: &Known<'_, '_>, at: usize) -> Option<usize> {
+    let index = known.kinds.fact(at).declaration()?;
+    let declared = known.kinds.names.get(index)?;
+    Some(declared.node)
 }
 
-/// Adds the help on an argument of another kind.
-pub fn help_on(draft: &mut Draft, known: &Known<'_, '_>, at: usize, wanted: Wanted) {
-    let text = known.text(at, at);
-    let kind = known.kinds.kind(at);
-    match (wanted, kind) {
-        (_, Kind::Routine) => draft.help(
-            "a call has parentheses, as in {}()",
-            &[Fill::Shown(routine_name(known, at))],
-        ),
-        (Wanted::Character, Kind::String) => match only_character(text) {
-            Some(inside) => draft.help(
-                "a character is in single quotes: '{}'",
-                &[Fill::Shown(inside)],
-            ),
-            None => draft.help("WRITES and %S write a string", &[]),
+/// The help on an argument of another kind.
+fn help_on(known: &Known<'_, '_>, at: usize, wanted: Wanted) -> u16 {
+    match (wanted, known.kind(at)) {
+        (_, Kind::Routine) if routine_of(known, at).is_none() => UNNAMED_ROUTINE_FOR_VALUE,
+        (_, Kind::Routine) => ROUTINE_FOR_VALUE,
+        (Wanted::Character, Kind::String) => match only_character(known.text(at, at)) {
+            Some(_) => STRING_OF_CHARACTER,
+            None => STRING_FOR_CHARACTER,
         },
-        (Wanted::Number, Kind::String) => draft.help(
-            "a number has no quotes; WRITES and %S write a string",
-            &[],
-        ),
-        (Wanted::String, Kind::Number) if is_repeated_string(known, at) => draft.help(
-            "no operator repeats a string; write it in a FOR, as in FOR I = 1 TO 20 DO WRITES(\"-\")",
-            &[],
-        ),
-        (Wanted::String, Kind::Number) => draft.help("WRITEN and %N write a number", &[]),
-        (Wanted::String, Kind::Character) => draft.help(
-            "WRCH and %C write a character; a string is in double quotes",
-            &[],
-        ),
-        (_, Kind::Vector | Kind::Table) => draft.help(
-            "an element of it is written {}!0, {}!1 and so on",
-            &[Fill::Shown(text), Fill::Shown(text)],
-        ),
-        _ => draft.help("the value is taken for an address, whatever it is", &[]),
+        (Wanted::Number, Kind::String) => STRING_FOR_NUMBER,
+        (Wanted::String, Kind::Number) if is_repeated_string(known, at) => REPEATED_STRING,
+        (Wanted::String, Kind::Number) => NUMBER_FOR_STRING,
+        (Wanted::String, Kind::Character) => CHARACTER_FOR_STRING,
+        (_, Kind::Vector | Kind::Table) => VECTOR_FOR_VALUE,
+        _ => VALUE_FOR_ADDRESS,
     }
 }
 
-/// Adds the help on a string that is selected as a stream, or on the order of arguments. Returns whether there is one.
-fn helps_with_routine(draft: &mut Draft, known: &Known<'_, '_>, at: usize, name: &[u8]) -> bool {
-    let text = known.shown(at);
-    let is_number = matches!(known.kinds.kind(at), Kind::Number | Kind::Truth);
+/// An argument of another kind, with the help on it.
+pub fn found_other(known: &Known<'_, '_>, id: u16, at: usize, wanted: Wanted) -> Found {
+    let found = Found::new(id, at).helped(help_on(known, at, wanted));
+    match routine_of(known, at) {
+        Some(routine) => found.and(routine, at),
+        None => found,
+    }
+}
+
+/// The help on a string that is selected as a stream, or on the order of arguments.
+fn help_with_routine(known: &Known<'_, '_>, at: usize, name: &[u8]) -> Option<u16> {
+    let is_number = matches!(known.kind(at), Kind::Number | Kind::Truth);
     if is_number && (name == b"PUTBYTE".as_slice() || name == b"GETBYTE".as_slice()) {
-        draft.help(
-            "the arguments are the string, the number of the byte, and the character: GETBYTE(S, I), PUTBYTE(S, I, CH)",
-            &[],
-        );
-        true
-    } else if known.kinds.kind(at) != Kind::String {
-        false
+        Some(BYTES_OF_STRING)
+    } else if !known.is(at, Kind::String) {
+        None
     } else if name == b"SELECTINPUT".as_slice() {
-        draft.help(
-            "FINDINPUT opens a stream: SELECTINPUT(FINDINPUT({}))",
-            &[text],
-        );
-        true
+        Some(SELECTED_INPUT)
     } else if name == b"SELECTOUTPUT".as_slice() {
-        draft.help(
-            "FINDOUTPUT opens a stream: SELECTOUTPUT(FINDOUTPUT({}))",
-            &[text],
-        );
-        true
+        Some(SELECTED_OUTPUT)
     } else {
-        false
+        None
     }
 }
 
-/// Warns of WRITEN(V + 2), where V is a vector. Returns whether it is one.
-fn warns_of_cell_address(draft: &mut Draft, known: &Known<'_, '_>, at: usize) -> bool {
-    let tree = known.tree;
-    let (vector, number) = (tree.first(at), tree.second(at));
-    let is_vector = matches!(known.kinds.kind(vector), Kind::Vector | Kind::Table)
-        && matches!(tree.form(vector), Form::Name);
-    let is_plain = matches!(tree.form(number), Form::Number(_) | Form::Name);
-    if !matches!(tree.form(at), Form::Bin(BinaryOp::Add)) || !is_vector || !is_plain {
-        return false;
+/// WRITEN(V + 2), where V is a vector.
+fn check_cell_address(known: &Known<'_, '_>, at: usize) -> Option<Found> {
+    let (vector, number) = known.sides(at);
+    let is_vector = matches!(known.kind(vector), Kind::Vector | Kind::Table)
+        && matches!(known.form(vector), Form::Name);
+    let is_plain = matches!(known.form(number), Form::Number(_) | Form::Name);
+    if !matches!(known.form(at), Form::Bin(BinaryOp::Add)) || !is_vector || !is_plain {
+        return None;
     }
-    known.begin(draft, at, at);
-    draft.say(
-        "WRITEN takes a number here, but {} is the address of a cell",
-        &[known.shown(at)],
-    );
-    draft.help(
-        "the value of the cell is {}!{}",
-        &[known.shown(vector), known.shown(number)],
-    );
-    true
+    Some(Found::new(CELL_ADDRESS, at).with(vector, number))
 }
 
-/// Warns of WRCH(N REM 10). Returns whether it is one.
-fn warns_of_last_digit(draft: &mut Draft, known: &Known<'_, '_>, at: usize) -> bool {
-    let divisor = known.kinds.value(known.tree.second(at));
-    let is_digit = matches!(divisor, Some(word) if word.get() >= 2 && word.get() <= 10);
-    if !matches!(known.tree.form(at), Form::Bin(BinaryOp::Remainder)) || !is_digit {
-        return false;
+/// WRCH(N REM 10).
+fn check_last_digit(known: &Known<'_, '_>, at: usize) -> Option<Found> {
+    let divisor = known.value(known.tree.second(at))?.get();
+    if !matches!(known.form(at), Form::Bin(BinaryOp::Remainder)) || divisor < 2 || divisor > 10 {
+        return None;
     }
-    let name = known.shown(at);
-    known.begin(draft, at, at);
-    draft.say(
-        "WRCH takes a character here, but {} is a number of one digit",
-        &[name],
-    );
-    draft.help("the character that shows it is '0' + {}", &[name]);
-    true
+    Some(Found::new(LAST_DIGIT, at))
 }
 
-/// Warns of an argument of a routine of the library. Returns whether it does.
-fn warns_of_argument(
-    draft: &mut Draft,
+/// An argument of a routine of the library, which this node declares.
+fn check_argument(
     known: &Known<'_, '_>,
     at: usize,
-    name: &[u8],
+    routine: usize,
     wanted: Wanted,
-) -> bool {
-    let fact = known.kinds.fact(at);
-    if is_other(wanted, &fact) {
-        known.begin(draft, at, at);
-        draft.say(
-            "{} takes {} here, but {} is {}",
-            &[
-                Fill::Shown(name),
-                Fill::Text(wanted_by(name, wanted)),
-                known.shown(at),
-                Fill::Text(fact.kind.name()),
-            ],
-        );
-        if !helps_with_routine(draft, known, at, name) {
-            help_on(draft, known, at, wanted);
-        }
-        return true;
+) -> Option<Found> {
+    let name = known.tree.text(routine);
+    if is_other(wanted, &known.kinds.fact(at)) {
+        let found = found_other(known, ARGUMENT_OF_OTHER_KIND, at, wanted);
+        let found = found.with(at, routine).saying(wanted_by(name, wanted));
+        return match help_with_routine(known, at, name) {
+            Some(help) => Some(found.helped(help)),
+            None => Some(found),
+        };
     }
     if name == b"WRITEN".as_slice() {
-        return warns_of_large(draft, known, at) || warns_of_cell_address(draft, known, at);
+        return match check_large(known, at) {
+            Some(found) => Some(found),
+            None => check_cell_address(known, at),
+        };
     }
-    name == b"WRCH".as_slice() && warns_of_last_digit(draft, known, at)
+    if name == b"WRCH".as_slice() {
+        return check_last_digit(known, at);
+    }
+    None
 }
 
-/// Warns of the arguments of a routine of the library. Returns whether it does.
-fn warns_of_kinds(draft: &mut Draft, known: &Known<'_, '_>, at: usize, name: &[u8]) -> bool {
-    let Some(signature) = signature_of(name) else {
-        return false;
-    };
-    let tree = known.tree;
-    let end = tree.end(at);
-    let mut argument = tree.second(at);
+/// The arguments of a routine of the library, which this node declares.
+fn check_kinds(known: &Known<'_, '_>, at: usize, routine: usize) -> Option<Found> {
+    let signature = signature_of(known.tree.text(routine))?;
+    let end = known.tree.end(at);
+    let mut argument = known.tree.second(at);
     for index in 0..3 {
         if argument >= end {
-            return false;
+            return None;
         }
-        if warns_of_argument(draft, known, argument, name, signature.wanted(index)) {
-            return true;
+        let found = check_argument(known, argument, routine, signature.wanted(index));
+        if found.is_some() {
+            return found;
         }
-        argument = tree.end(argument);
+        argument = known.tree.end(argument);
     }
-    false
+    None
 }
 
 /// Whether a word is negative when it is read signed.
@@ -250,31 +206,10 @@ pub fn large(known: &Known<'_, '_>, at: usize) -> Option<Word> {
     }
 }
 
-/// Appends a signed number.
-pub fn say_signed(draft: &mut Draft, word: Word) {
-    if is_negative(word) {
-        draft.say("-{}", &[Fill::Number(u64::from(word.negated().get()))]);
-    } else {
-        draft.say("{}", &[Fill::Number(u64::from(word.get()))]);
-    }
-}
-
-/// Warns if a node is a number that is negative when it is read signed. Returns whether it is.
-pub fn warns_of_large(draft: &mut Draft, known: &Known<'_, '_>, at: usize) -> bool {
-    let Some(word) = large(known, at) else {
-        return false;
-    };
-    known.begin(draft, at, at);
-    draft.say(
-        "{} is read signed here, as ",
-        &[Fill::Number(u64::from(word.get()))],
-    );
-    say_signed(draft, word);
-    draft.help(
-        "a word holds -32768 to 32767; only = and ~= compare the others as you mean them",
-        &[],
-    );
-    true
+/// A number that is negative when it is read signed.
+pub fn check_large(known: &Known<'_, '_>, at: usize) -> Option<Found> {
+    let number = u64::from(large(known, at)?.get());
+    Some(Found::new(SIGNED_NUMBER, at).counting(number, 0))
 }
 
 /// How many arguments a call has.
@@ -320,58 +255,25 @@ fn parameters_of(known: &Known<'_, '_>, declared: &Declared) -> Option<usize> {
     }
 }
 
-/// Appends that a call passes so many arguments to a routine with so many parameters.
-fn say_counts(draft: &mut Draft, given: usize, name: &[u8], taken: usize) {
-    draft.say(
-        if given == 1 {
-            "this call passes {} argument, but "
-        } else {
-            "this call passes {} arguments, but "
-        },
-        &[Fill::Number(given as u64)],
-    );
-    draft.say(
-        if taken == 1 {
-            "{} has {} parameter"
-        } else {
-            "{} has {} parameters"
-        },
-        &[Fill::Shown(name), Fill::Number(taken as u64)],
-    );
-}
-
-/// Warns if a call has more arguments than the routine has parameters, or fewer than one of the library has. Returns
-/// whether it has.
-fn warns_of_count(
-    draft: &mut Draft,
-    known: &Known<'_, '_>,
-    at: usize,
-    declared: &Declared,
-) -> bool {
-    let Some(taken) = parameters_of(known, declared) else {
-        return false;
-    };
+/// A call with more arguments than the routine has parameters, or fewer than one of the library has.
+fn check_count(known: &Known<'_, '_>, at: usize, declared: &Declared) -> Option<Found> {
+    let taken = parameters_of(known, declared)?;
     let given = arguments(known, at);
     let is_short = given < taken && declared.is_library;
     if given <= taken && !is_short {
-        return false;
+        return None;
     }
-    let routine = known.tree.first(at);
-    known.begin(draft, routine, routine);
-    say_counts(draft, given, known.tree.text(declared.node), taken);
-    draft.help(
-        if is_short {
-            "a parameter without an argument has no value"
-        } else if is_writing(known, declared) {
-            "the others are lost; WRITEF writes several values, as in WRITEF(\"%S %N*N\", S, N)"
-        } else if is_reading(known, declared) {
-            "what it reads is its value, as in X := RDCH(), or X := READN() with EXTHDR"
-        } else {
-            "the arguments after the last parameter are lost"
-        },
-        &[],
-    );
-    true
+    let id = if is_short {
+        MISSING_ARGUMENTS
+    } else if is_writing(known, declared) {
+        FURTHER_ARGUMENTS_WRITTEN
+    } else if is_reading(known, declared) {
+        FURTHER_ARGUMENTS_READ
+    } else {
+        FURTHER_ARGUMENTS
+    };
+    let found = Found::new(id, known.tree.first(at)).of(declared.node);
+    Some(found.counting(given as u64, taken as u64))
 }
 
 /// Whether a declaration is that of the library's WRITES or WRITEN.
@@ -398,43 +300,38 @@ fn format_letter(text: &[u8]) -> Option<u8> {
     None
 }
 
-/// Warns of a format that WRITES is given. Returns whether it is one.
-fn warns_of_plain_format(draft: &mut Draft, known: &Known<'_, '_>, at: usize, name: &[u8]) -> bool {
-    let tree = known.tree;
-    let text = tree.second(at);
-    if name != b"WRITES".as_slice() || !matches!(tree.form(text), Form::String) {
-        return false;
+/// A format that WRITES is given.
+fn check_plain_format(known: &Known<'_, '_>, at: usize, name: &[u8]) -> Option<Found> {
+    let text = known.tree.second(at);
+    if name != b"WRITES".as_slice() || !matches!(known.form(text), Form::String) {
+        return None;
     }
-    let Some(letter) = format_letter(tree.text(text)) else {
-        return false;
-    };
-    let sign = [letter];
-    known.begin(draft, text, text);
-    draft.say(
-        "WRITES writes %{} as it is, and no value",
-        &[Fill::Shown(&sign)],
-    );
-    draft.help(
-        "WRITEF writes a value for each %N, as in WRITEF(\"%N*N\", X)",
-        &[],
-    );
-    true
+    let letter = format_letter(known.tree.text(text))?;
+    Some(Found::new(PLAIN_FORMAT, text).counting(u64::from(letter), 0))
 }
 
-/// Warns of a call. Returns whether it does.
-pub fn warns_of_call(draft: &mut Draft, known: &Known<'_, '_>, at: usize) -> bool {
-    let Some(declared) = known.kinds.names.at(known.tree.first(at)) else {
-        return false;
-    };
-    if declared.is_assigned {
-        return false;
+/// A call of a routine of the library.
+fn check_library_call(known: &Known<'_, '_>, at: usize, declared: &Declared) -> Option<Found> {
+    if let Some(found) = check_kinds(known, at, declared.node) {
+        return Some(found);
     }
-    if declared.is_library {
-        let name = known.tree.text(declared.node);
-        warns_of_kinds(draft, known, at, name)
-            || warns_of_plain_format(draft, known, at, name)
-            || warns_of_count(draft, known, at, declared)
+    let name = known.tree.text(declared.node);
+    if let Some(found) = check_plain_format(known, at, name) {
+        return Some(found);
+    }
+    check_count(known, at, declared)
+}
+
+/// A call.
+pub fn check_call(known: &Known<'_, '_>, at: usize) -> Option<Found> {
+    let declared = known.kinds.names.at(known.tree.first(at))?;
+    if declared.is_assigned {
+        None
+    } else if declared.is_library {
+        check_library_call(known, at, declared)
+    } else if declared.sort == Sort::Routine {
+        check_count(known, at, declared)
     } else {
-        declared.sort == Sort::Routine && warns_of_count(draft, known, at, declared)
+        None
     }
 }

@@ -1,162 +1,104 @@
 //! Warnings on relations and conditions that are probably meant otherwise.
 
-use crate::calls::{large, only_character, say_signed, warns_of_large};
-use crate::habits::warns_of_end;
+use crate::calls::{check_large, large, only_character};
+use crate::found::Found;
+use crate::habits::check_end;
 use crate::kinds::is_relation;
-use crate::known::{Known, sign_of};
-use crate::ranges::warns_of_range;
-use crate::relations::warns_of_equality;
+use crate::known::Known;
+use crate::ranges::check_range;
+use crate::relations::check_equality;
 use bc_parse_tree::{BinaryOp, UnaryOp};
+use bcpl_catalogue::ids::{
+    ADDED_STRING, ADDED_STRINGS, ADDED_VECTORS, ALWAYS_DIFFERENT, ALWAYS_GREATER, ALWAYS_LESS,
+    COMPARED_STRING, COMPARED_STRINGS, COMPARED_TRUTH, COMPARED_VECTORS, CONSTANT_CONDITION,
+    INVERTED_NUMBER, LOADED_NUMBER, LOADED_TRUTH, LOOSE_RELATION, NEVER_BOTH, NEVER_GREATER,
+    NEVER_LESS, NEVER_TRUE, STRING_AS_CONDITION, UNCALLED_ROUTINE, VECTOR_AND_ZERO,
+    VECTOR_AS_CONDITION, WORD_OF_STRING,
+};
 use bcpl_index::{Form, Kind, Sort};
-use bcpl_messages::{Draft, Fill};
 
 /// The operator of a relation; `None` if the node isn't one.
 pub fn relation_at(known: &Known<'_, '_>, at: usize) -> Option<BinaryOp> {
-    match known.tree.form(at) {
+    match known.form(at) {
         Form::Bin(sign) if is_relation(sign) => Some(sign),
         _ => None,
     }
 }
 
-/// Warns of `X & 1 = 0`: the relation of two constants is the second operand. Returns whether it is.
-fn warns_of_precedence(
-    draft: &mut Draft,
-    known: &Known<'_, '_>,
-    at: usize,
-    sign: BinaryOp,
-) -> bool {
-    let tree = known.tree;
-    let second = tree.second(at);
-    let Some(relation) = relation_at(known, second) else {
-        return false;
-    };
-    let (left, right) = (tree.first(second), tree.second(second));
-    if !known.is_constant(second)
-        || known.kinds.kind(tree.first(at)) == Kind::Truth
+/// `X & 1 = 0`: the relation of two constants is the second operand.
+fn check_precedence(known: &Known<'_, '_>, at: usize) -> Option<Found> {
+    let (first, second) = known.sides(at);
+    if relation_at(known, second).is_none()
+        || !known.is_constant(second)
+        || known.is(first, Kind::Truth)
         || known.is_parenthesised(second)
     {
-        return false;
+        return None;
     }
-    let first = known.shown(tree.first(at));
-    let parts = [
-        first,
-        Fill::Text(sign_of(sign)),
-        known.shown(left),
-        Fill::Text(sign_of(relation)),
-        known.shown(right),
-    ];
-    known.begin(draft, at, at);
-    draft.say(
-        "{} binds tighter than {}: ",
-        &[Fill::Text(sign_of(relation)), Fill::Text(sign_of(sign))],
-    );
-    draft.say("this is {} {} ({} {} {})", &parts);
-    draft.help("write ({} {} {}) {} {}", &parts);
-    true
+    let (left, right) = known.sides(second);
+    Some(
+        Found::new(LOOSE_RELATION, at)
+            .with(first, left)
+            .and(right, second),
+    )
 }
 
-/// Warns of `CH = 'a' | 'b'`: a constant is the second operand, and a relation the first. Returns whether it is.
-fn warns_of_alternative(
-    draft: &mut Draft,
-    known: &Known<'_, '_>,
-    at: usize,
-    sign: BinaryOp,
-) -> bool {
-    let tree = known.tree;
-    let (first, second) = (tree.first(at), tree.second(at));
-    let Some(relation) = relation_at(known, first) else {
-        return false;
-    };
-    let is_meant = match tree.form(second) {
+/// `CH = 'a' | 'b'`: a constant is the second operand, and a relation the first.
+fn check_alternative(known: &Known<'_, '_>, at: usize, sign: BinaryOp) -> Option<Found> {
+    let (first, second) = known.sides(at);
+    let (left, right) = known.sides(first);
+    let is_meant = match known.form(second) {
         Form::Character(_) => true,
         Form::Number(word) => word.get() != 0 && sign == BinaryOp::Or,
         _ => false,
     };
-    if !is_meant || known.kinds.kind(tree.second(first)) == Kind::Truth {
-        return false;
+    if !is_meant || relation_at(known, first).is_none() || known.is(right, Kind::Truth) {
+        return None;
     }
-    known.begin(draft, at, at);
-    draft.say(
-        "{} {} is a condition by itself here, and always true",
-        &[Fill::Text(sign_of(sign)), known.shown(second)],
-    );
-    let left = known.shown(tree.first(first));
-    let equals = Fill::Text(sign_of(relation));
-    draft.help(
-        "write {} {} {} {} {} {} {}",
-        &[
-            left,
-            equals,
-            known.shown(tree.second(first)),
-            Fill::Text(sign_of(sign)),
-            left,
-            equals,
-            known.shown(second),
-        ],
-    );
-    true
+    Some(
+        Found::new(CONSTANT_CONDITION, at)
+            .with(left, second)
+            .and(right, first),
+    )
 }
 
 /// The variable and the constant that a relation of this sign compares.
 fn compared(known: &Known<'_, '_>, at: usize, sign: BinaryOp) -> Option<(usize, u16)> {
-    let (left, right) = (known.tree.first(at), known.tree.second(at));
+    let (left, right) = known.sides(at);
     if relation_at(known, at)? != sign || !known.is_constant(right) {
         return None;
     }
     let variable = known.kinds.names.index_at(left)?;
-    let value = known.kinds.value(right)?;
+    let value = known.value(right)?;
     Some((variable, value.get()))
 }
 
-/// Warns of `X ~= 1 | X ~= 2`, which is always true, and of `X = 1 & X = 2`, which never is. Returns whether it is one.
-fn warns_of_exclusion(draft: &mut Draft, known: &Known<'_, '_>, at: usize, sign: BinaryOp) -> bool {
-    let is_or = sign == BinaryOp::Or;
-    let relation = if is_or {
-        BinaryOp::NotEqual
+/// `X ~= 1 | X ~= 2`, which is always true, and `X = 1 & X = 2`, which never is.
+fn check_exclusion(known: &Known<'_, '_>, at: usize, sign: BinaryOp) -> Option<Found> {
+    let (relation, id) = if sign == BinaryOp::Or {
+        (BinaryOp::NotEqual, ALWAYS_DIFFERENT)
     } else {
-        BinaryOp::Equal
+        (BinaryOp::Equal, NEVER_BOTH)
     };
-    let (first, second) = (known.tree.first(at), known.tree.second(at));
-    let (Some((name, one)), Some((same, other))) = (
-        compared(known, first, relation),
-        compared(known, second, relation),
-    ) else {
-        return false;
-    };
+    let (first, second) = known.sides(at);
+    let (name, one) = compared(known, first, relation)?;
+    let (same, other) = compared(known, second, relation)?;
     if name != same || one == other {
-        return false;
+        return None;
     }
-    known.begin(draft, at, at);
-    draft.say(
-        if is_or {
-            "this is always true: {} differs from one of the two at least"
-        } else {
-            "this is never true: {} can't be both"
-        },
-        &[known.shown(known.tree.first(first))],
-    );
-    draft.help(
-        "write {} {} {}",
-        &[
-            known.shown(first),
-            Fill::Text(if is_or { "&" } else { "|" }),
-            known.shown(second),
-        ],
-    );
-    true
+    let variable = known.tree.first(first);
+    Some(Found::new(id, at).with(first, second).and(variable, at))
 }
 
 /// Whether a node is a string that is written out.
 fn is_string(known: &Known<'_, '_>, at: usize) -> bool {
-    matches!(known.tree.form(at), Form::String)
+    matches!(known.form(at), Form::String)
 }
 
-/// Warns of a relation that compares the addresses of strings. Returns whether it does.
-fn warns_of_strings(draft: &mut Draft, known: &Known<'_, '_>, at: usize) -> bool {
-    let tree = known.tree;
-    let (left, right) = (tree.first(at), tree.second(at));
-    let are_both = known.kinds.kind(left) == Kind::String
-        && known.kinds.kind(right) == Kind::String;
+/// A relation that compares the addresses of strings.
+fn check_strings(known: &Known<'_, '_>, at: usize) -> Option<Found> {
+    let (left, right) = known.sides(at);
+    let are_both = known.is(left, Kind::String) && known.is(right, Kind::String);
     let literal = if is_string(known, right) {
         right
     } else if is_string(known, left) {
@@ -164,106 +106,65 @@ fn warns_of_strings(draft: &mut Draft, known: &Known<'_, '_>, at: usize) -> bool
     } else if are_both {
         at
     } else {
-        return false;
+        return None;
     };
-    match only_character(known.text(literal, literal)) {
-        Some(inside) if !are_both && literal != at => {
-            known.begin(draft, literal, literal);
-            draft.say(
-                "{} is a string, and its address is compared here",
-                &[known.shown(literal)],
-            );
-            draft.help(
-                "the character is in single quotes: '{}'",
-                &[Fill::Shown(inside)],
-            );
-        }
-        _ => {
-            known.begin(draft, at, at);
-            draft.say("this compares the addresses of two strings", &[]);
-            draft.help(
-                "COMPSTRING of EXTHDR compares what is in them: COMPSTRING(S, T) = 0 if they are equal",
-                &[],
-            );
-        }
+    let is_character = only_character(known.text(literal, literal)).is_some();
+    if is_character && !are_both && literal != at {
+        Some(Found::new(COMPARED_STRING, literal))
+    } else {
+        Some(Found::new(COMPARED_STRINGS, at))
     }
-    true
 }
 
-/// Warns of a truth value that is compared with a number other than TRUE and FALSE. Returns whether one is.
-fn warns_of_truth(draft: &mut Draft, known: &Known<'_, '_>, at: usize) -> bool {
-    let tree = known.tree;
-    let (left, right) = (tree.first(at), tree.second(at));
-    let (truth, number) = if known.kinds.kind(left) == Kind::Truth {
+/// A truth value that is compared with a number other than TRUE and FALSE.
+fn check_truth(known: &Known<'_, '_>, at: usize) -> Option<Found> {
+    let (left, right) = known.sides(at);
+    let (truth, number) = if known.is(left, Kind::Truth) {
         (left, right)
     } else {
         (right, left)
     };
-    let is_other = match known.kinds.value(number) {
-        Some(word) => word.get() != 0 && word.get() != 65535,
-        None => false,
+    let word = known.value(number)?.get();
+    let is_other = word != 0 && word != 65535;
+    if !known.is(truth, Kind::Truth) || !known.kind(number).is_plain() || !is_other {
+        return None;
+    }
+    let id = match known.form(truth) {
+        Form::True => NEVER_TRUE,
+        _ => COMPARED_TRUTH,
     };
-    if known.kinds.kind(truth) != Kind::Truth || !known.kinds.kind(number).is_plain() || !is_other {
-        return false;
-    }
-    known.begin(draft, at, at);
-    if matches!(tree.form(truth), Form::True) {
-        draft.say(
-            "{} is never TRUE: TRUE is -1, and FALSE is 0",
-            &[known.shown(number)],
-        );
-        draft.help("use TRUE and FALSE for truth values", &[]);
-        return true;
-    }
-    draft.say(
-        "{} is a truth value, and never {}: TRUE is -1, and FALSE is 0",
-        &[known.shown(truth), known.shown(number)],
-    );
-    draft.help(
-        "write {} or NOT {} as the condition",
-        &[known.shown(truth), known.shown(truth)],
-    );
-    true
+    Some(Found::new(id, at).with(truth, number))
 }
 
-/// Warns of a routine's name that is compared with a number, or is an operand of arithmetic. Returns whether one is.
-fn warns_of_routine(draft: &mut Draft, known: &Known<'_, '_>, at: usize, sign: BinaryOp) -> bool {
-    let tree = known.tree;
-    let (left, right) = (tree.first(at), tree.second(at));
-    let (routine, other) = if known.kinds.kind(left) == Kind::Routine {
-        (left, right)
-    } else {
-        (right, left)
-    };
-    let is_arithmetic = matches!(
+/// Whether an operator computes a number.
+fn is_arithmetic(sign: BinaryOp) -> bool {
+    matches!(
         sign,
         BinaryOp::Add
             | BinaryOp::Subtract
             | BinaryOp::Multiply
             | BinaryOp::Divide
             | BinaryOp::Remainder
-    );
-    let is_compared = is_relation(sign)
-        && matches!(
-            known.kinds.kind(other),
-            Kind::Number | Kind::Character | Kind::Truth | Kind::String
-        );
-    if known.kinds.kind(routine) != Kind::Routine || !is_arithmetic && !is_compared {
-        return false;
-    }
-    say_routine(draft, known, routine);
-    true
+    )
 }
 
-/// Warns that a name is a routine's address.
-fn say_routine(draft: &mut Draft, known: &Known<'_, '_>, at: usize) {
-    let name = known.shown(at);
-    known.begin(draft, at, at);
-    draft.say(
-        "{} is a routine, and without parentheses it isn't called",
-        &[name],
-    );
-    draft.help("a call is written {}() or {}(A, B)", &[name, name]);
+/// A routine's name that is compared with a number, or is an operand of arithmetic.
+fn check_routine(known: &Known<'_, '_>, at: usize, sign: BinaryOp) -> Option<Found> {
+    let (left, right) = known.sides(at);
+    let (routine, other) = if known.is(left, Kind::Routine) {
+        (left, right)
+    } else {
+        (right, left)
+    };
+    let is_compared = is_relation(sign)
+        && matches!(
+            known.kind(other),
+            Kind::Number | Kind::Character | Kind::Truth | Kind::String
+        );
+    if !known.is(routine, Kind::Routine) || !is_arithmetic(sign) && !is_compared {
+        return None;
+    }
+    Some(Found::new(UNCALLED_ROUTINE, routine))
 }
 
 /// Whether a node is the name of a vector.
@@ -274,216 +175,149 @@ fn is_vector(known: &Known<'_, '_>, at: usize) -> bool {
     }
 }
 
-/// Warns of a vector that is compared with another one, or with 0. Returns whether it is.
-fn warns_of_vectors(draft: &mut Draft, known: &Known<'_, '_>, at: usize) -> bool {
-    let tree = known.tree;
-    let (left, right) = (tree.first(at), tree.second(at));
+/// A vector that is compared with another one, or with 0.
+fn check_vectors(known: &Known<'_, '_>, at: usize) -> Option<Found> {
+    let (left, right) = known.sides(at);
     if !is_vector(known, left) {
-        return false;
+        return None;
     }
-    let name = known.shown(left);
     if is_vector(known, right) {
-        known.begin(draft, at, at);
-        draft.say("this compares the addresses of two vectors", &[]);
-        draft.help(
-            "compare the cells in a FOR, as in {}!I = {}!I",
-            &[name, known.shown(right)],
-        );
-        return true;
+        return Some(Found::new(COMPARED_VECTORS, at).with(left, right));
     }
-    let is_zero = matches!(tree.form(right), Form::Number(word) if word.get() == 0);
-    if is_zero {
-        known.begin(draft, at, at);
-        draft.say("{} is the address of its cells, and never 0", &[name]);
-        draft.help("the first cell is written {}!0", &[name]);
-    }
-    is_zero
-}
-
-/// What is wrong with a relation of this sign to a number, if that is the greatest or the least one.
-fn extreme(sign: BinaryOp, number: u16) -> Option<&'static str> {
-    match (sign, number) {
-        (BinaryOp::Greater, 32767) => Some("this is never true: no number is greater than 32767"),
-        (BinaryOp::LessEqual, 32767) => {
-            Some("this is always true: no number is greater than 32767")
-        }
-        (BinaryOp::Less, 32768) => Some("this is never true: no number is less than -32768"),
-        (BinaryOp::GreaterEqual, 32768) => {
-            Some("this is always true: no number is less than -32768")
-        }
+    match known.form(right) {
+        Form::Number(word) if word.get() == 0 => Some(Found::new(VECTOR_AND_ZERO, at).of(left)),
         _ => None,
     }
 }
 
-/// Warns of a relation to the greatest or the least number that is always or never true. Returns whether it is one.
-fn warns_of_extreme(draft: &mut Draft, known: &Known<'_, '_>, at: usize, sign: BinaryOp) -> bool {
+/// A relation to the greatest or the least number that is always or never true.
+fn check_extreme(known: &Known<'_, '_>, at: usize, sign: BinaryOp) -> Option<Found> {
     let right = known.tree.second(at);
-    let Some(word) = known.kinds.value(right) else {
-        return false;
-    };
-    let Some(sentence) = extreme(sign, word.get()) else {
-        return false;
+    let id = match (sign, known.value(right)?.get()) {
+        (BinaryOp::Greater, 32767) => NEVER_GREATER,
+        (BinaryOp::LessEqual, 32767) => ALWAYS_LESS,
+        (BinaryOp::Less, 32768) => NEVER_LESS,
+        (BinaryOp::GreaterEqual, 32768) => ALWAYS_GREATER,
+        _ => return None,
     };
     if !known.is_constant(right) {
-        return false;
+        return None;
     }
-    known.begin(draft, at, at);
-    draft.say(sentence, &[]);
-    draft.help(
-        "a word holds -32768 to 32767, and after 32767 comes -32768",
-        &[],
-    );
-    true
+    Some(Found::new(id, at))
 }
 
-/// Warns of a relation. Returns whether it does.
-fn warns_of_relation(draft: &mut Draft, known: &Known<'_, '_>, at: usize, sign: BinaryOp) -> bool {
-    let is_equality = matches!(sign, BinaryOp::Equal | BinaryOp::NotEqual);
-    if is_equality && warns_of_equality(draft, known, at, sign) {
-        return true;
-    }
-    if warns_of_strings(draft, known, at) || warns_of_truth(draft, known, at) {
-        return true;
-    }
-    if is_equality {
-        return warns_of_vectors(draft, known, at) || warns_of_end(draft, known, at);
-    }
-    let (left, right) = (known.tree.first(at), known.tree.second(at));
+/// A relation by order with an operand that is a large number, or the greatest or the least one.
+fn check_order(known: &Known<'_, '_>, at: usize, sign: BinaryOp) -> Option<Found> {
+    let (left, right) = known.sides(at);
     if large(known, left).is_some() && large(known, right).is_some() {
-        return false;
+        return None;
     }
-    warns_of_large(draft, known, left)
-        || warns_of_large(draft, known, right)
-        || warns_of_extreme(draft, known, at, sign)
+    if let Some(found) = check_large(known, left) {
+        return Some(found);
+    }
+    if let Some(found) = check_large(known, right) {
+        return Some(found);
+    }
+    check_extreme(known, at, sign)
+}
+
+/// A relation.
+fn check_relation(known: &Known<'_, '_>, at: usize, sign: BinaryOp) -> Option<Found> {
+    let is_equality = matches!(sign, BinaryOp::Equal | BinaryOp::NotEqual);
+    if is_equality {
+        if let Some(found) = check_equality(known, at, sign) {
+            return Some(found);
+        }
+    }
+    if let Some(found) = check_strings(known, at) {
+        return Some(found);
+    }
+    if let Some(found) = check_truth(known, at) {
+        return Some(found);
+    }
+    if !is_equality {
+        return check_order(known, at, sign);
+    }
+    if let Some(found) = check_vectors(known, at) {
+        return Some(found);
+    }
+    check_end(known, at)
 }
 
 /// Whether a node is a vector or a table.
 fn has_cells(known: &Known<'_, '_>, at: usize) -> bool {
-    matches!(known.kinds.kind(at), Kind::Vector | Kind::Table)
+    matches!(known.kind(at), Kind::Vector | Kind::Table)
 }
 
-/// Warns of two vectors that are added. Returns whether they are.
-fn warns_of_added_vectors(draft: &mut Draft, known: &Known<'_, '_>, at: usize) -> bool {
-    let (left, right) = (known.tree.first(at), known.tree.second(at));
+/// Two vectors or strings that are added, or a string that is written out and something else.
+fn check_sum(known: &Known<'_, '_>, at: usize) -> Option<Found> {
+    let (left, right) = known.sides(at);
+    if known.is(left, Kind::String) && known.is(right, Kind::String) {
+        return Some(Found::new(ADDED_STRINGS, at));
+    }
+    if is_string(known, left) || is_string(known, right) {
+        return Some(Found::new(ADDED_STRING, at));
+    }
     if !has_cells(known, left) || !has_cells(known, right) {
-        return false;
+        return None;
     }
-    known.begin(draft, at, at);
-    draft.say("this adds the addresses of two vectors", &[]);
-    draft.help(
-        "add the cells in a FOR, as in {}!I + {}!I",
-        &[known.shown(left), known.shown(right)],
-    );
-    true
+    Some(Found::new(ADDED_VECTORS, at).with(left, right))
 }
 
-/// Warns of two strings that are added, or of a string that is written out and something else. Returns whether they are.
-fn warns_of_sum(draft: &mut Draft, known: &Known<'_, '_>, at: usize) -> bool {
-    let tree = known.tree;
-    let (left, right) = (tree.first(at), tree.second(at));
-    let are_both = known.kinds.kind(left) == Kind::String
-        && known.kinds.kind(right) == Kind::String;
-    let is_one = is_string(known, left) || is_string(known, right);
-    if !are_both && !is_one {
-        return warns_of_added_vectors(draft, known, at);
+/// Two conditions that `&` or `|` joins.
+fn check_joined(known: &Known<'_, '_>, at: usize, sign: BinaryOp) -> Option<Found> {
+    if let Some(found) = check_precedence(known, at) {
+        return Some(found);
     }
-    known.begin(draft, at, at);
-    if !are_both {
-        draft.say("this adds to the address of a string", &[]);
-        draft.help(
-            "no operator joins a string and a number; WRITEF writes both, as in WRITEF(\"n = %N*N\", N)",
-            &[],
-        );
-        return true;
+    if let Some(found) = check_alternative(known, at, sign) {
+        return Some(found);
     }
-    draft.say("this adds the addresses of two strings", &[]);
-    draft.help(
-        "no operator joins strings; write one after the other, or copy them byte by byte with PUTBYTE",
-        &[],
-    );
-    true
+    if let Some(found) = check_exclusion(known, at, sign) {
+        return Some(found);
+    }
+    check_range(known, at, sign)
 }
 
-/// Warns of a dyadic operator. Returns whether it does.
-pub fn warns_of_dyadic(
-    draft: &mut Draft,
-    known: &Known<'_, '_>,
-    at: usize,
-    sign: BinaryOp,
-) -> bool {
-    if warns_of_routine(draft, known, at, sign) {
-        return true;
+/// A dyadic operator.
+pub fn check_dyadic(known: &Known<'_, '_>, at: usize, sign: BinaryOp) -> Option<Found> {
+    if let Some(found) = check_routine(known, at, sign) {
+        return Some(found);
     }
     match sign {
-        BinaryOp::And | BinaryOp::Or => {
-            warns_of_precedence(draft, known, at, sign)
-                || warns_of_alternative(draft, known, at, sign)
-                || warns_of_exclusion(draft, known, at, sign)
-                || warns_of_range(draft, known, at, sign)
-        }
-        BinaryOp::Add => warns_of_sum(draft, known, at),
-        _ if is_relation(sign) => warns_of_relation(draft, known, at, sign),
-        _ => false,
+        BinaryOp::And | BinaryOp::Or => check_joined(known, at, sign),
+        BinaryOp::Add => check_sum(known, at),
+        _ if is_relation(sign) => check_relation(known, at, sign),
+        _ => None,
     }
 }
 
-/// Warns of NOT of a number that isn't a truth value, where the result is used as one. Returns whether it does.
-pub fn warns_of_not(draft: &mut Draft, known: &Known<'_, '_>, at: usize) -> bool {
-    let tree = known.tree;
-    let operand = tree.first(at);
-    let fact = known.kinds.fact(operand);
-    let Some(word) = fact.value() else {
-        return false;
-    };
-    let is_flag = matches!(tree.form(operand), Form::Name)
+/// NOT of a number that isn't a truth value, where the result is used as one.
+pub fn check_not(known: &Known<'_, '_>, at: usize) -> Option<Found> {
+    let operand = known.tree.first(at);
+    let word = known.value(operand)?;
+    let is_flag = matches!(known.form(operand), Form::Name)
         && word.get() == 1
-        && !matches!(tree.form_of_parent(at), Form::Bin(_) | Form::Entry(_));
+        && !matches!(known.tree.form_of_parent(at), Form::Bin(_) | Form::Entry(_));
     let is_meant = known.is_condition(at) || is_flag;
-    if fact.kind != Kind::Number || word.get() == 0 || word.get() == 65535 || !is_meant {
-        return false;
+    if !known.is(operand, Kind::Number) || word.get() == 0 || word.get() == 65535 || !is_meant {
+        return None;
     }
-    known.begin(draft, at, at);
-    draft.say("NOT {} is ", &[Fill::Number(u64::from(word.get()))]);
-    say_signed(draft, word.complemented());
-    draft.say(", which is true", &[]);
-    draft.help(
-        "NOT inverts each bit; for truth values, use TRUE and FALSE",
-        &[],
-    );
-    true
+    let inverted = u64::from(word.complemented().get());
+    Some(Found::new(INVERTED_NUMBER, at).counting(u64::from(word.get()), inverted))
 }
 
-/// Warns that a name is an address, and so always true.
-fn say_address(draft: &mut Draft, known: &Known<'_, '_>, at: usize, kind: Kind) {
-    let name = known.shown(at);
-    known.begin(draft, at, at);
-    draft.say(
-        "{} is {}, whose address is always true",
-        &[name, Fill::Text(kind.name())],
-    );
-    draft.help(
-        if kind == Kind::String {
-            "its length is GETBYTE({}, 0)"
-        } else {
-            "its first cell is written {}!0"
-        },
-        &[name],
-    );
-}
-
-/// Warns of the name of a routine, string or vector that is a condition. Returns whether it is one.
-pub fn warns_of_name(draft: &mut Draft, known: &Known<'_, '_>, at: usize) -> bool {
-    let kind = known.kinds.kind(at);
-    let is_address = matches!(kind, Kind::String | Kind::Vector | Kind::Table);
-    if !is_address && kind != Kind::Routine || !known.is_condition(at) {
-        return false;
+/// The name of a routine, string or vector that is a condition.
+pub fn check_name(known: &Known<'_, '_>, at: usize) -> Option<Found> {
+    let id = match known.kind(at) {
+        Kind::Routine => UNCALLED_ROUTINE,
+        Kind::String => STRING_AS_CONDITION,
+        Kind::Vector | Kind::Table => VECTOR_AS_CONDITION,
+        _ => return None,
+    };
+    if !known.is_condition(at) {
+        return None;
     }
-    if is_address {
-        say_address(draft, known, at, kind);
-    } else {
-        say_routine(draft, known, at);
-    }
-    true
+    Some(Found::new(id, at))
 }
 
 /// Whether a monadic operator is NOT.
@@ -491,74 +325,38 @@ pub fn is_not(sign: UnaryOp) -> bool {
     matches!(sign, UnaryOp::Not)
 }
 
-/// Warns of `!` before a string, whose word is passed on, or compared with a number or character. Returns whether it is.
-fn warns_of_word(draft: &mut Draft, known: &Known<'_, '_>, at: usize) -> bool {
-    let tree = known.tree;
-    let parent = tree.parent(at);
-    let other = if tree.is_first(at) {
-        tree.second(parent)
+/// Whether the word that `!` loads is passed on, or compared with a number or character.
+fn is_word_used(known: &Known<'_, '_>, at: usize) -> bool {
+    let parent = known.tree.parent(at);
+    let (first, second) = known.sides(parent);
+    let other = if known.tree.is_first(at) {
+        second
     } else {
-        tree.first(parent)
+        first
     };
-    let is_used = match tree.form(parent) {
-        Form::Call => !tree.is_first(at),
-        Form::Bin(sign) => is_relation(sign) && known.kinds.kind(other).is_plain(),
+    match known.form(parent) {
+        Form::Call => !known.tree.is_first(at),
+        Form::Bin(sign) => is_relation(sign) && known.kind(other).is_plain(),
         _ => false,
-    };
-    if !is_used {
-        return false;
     }
-    let name = known.shown(tree.first(at));
-    known.begin(draft, at, at);
-    draft.say(
-        "{} is a string, and a word of it holds two characters",
-        &[name],
-    );
-    draft.help(
-        "the string itself is {}; its length is GETBYTE({}, 0), and its first character GETBYTE({}, 1)",
-        &[name, name, name],
-    );
-    true
 }
 
-/// Warns of `!` before a variable that is a number. Returns whether it is one.
-fn warns_of_loaded_number(draft: &mut Draft, known: &Known<'_, '_>, at: usize) -> bool {
-    let operand = known.tree.first(at);
-    let is_variable = match (known.tree.form(operand), known.kinds.names.at(operand)) {
+/// Whether a node is the name of a variable.
+fn is_variable(known: &Known<'_, '_>, at: usize) -> bool {
+    match (known.form(at), known.kinds.names.at(at)) {
         (Form::Name, Some(declared)) => declared.sort == Sort::Variable,
         _ => false,
-    };
-    if !is_variable {
-        return false;
     }
-    let name = known.shown(operand);
-    known.begin(draft, at, at);
-    draft.say(
-        "{} is a number here, and ! takes it for an address",
-        &[name],
-    );
-    draft.help(
-        "the value of {} is written {}, and its address @{}",
-        &[name, name, name],
-    );
-    true
 }
 
-/// Warns of `!` before a truth value, a string or a number. Returns whether it is one.
-pub fn warns_of_load(draft: &mut Draft, known: &Known<'_, '_>, at: usize) -> bool {
+/// `!` before a truth value, a string or a variable that is a number.
+pub fn check_load(known: &Known<'_, '_>, at: usize) -> Option<Found> {
     let operand = known.tree.first(at);
-    match known.kinds.kind(operand) {
-        Kind::Truth => {}
-        Kind::String => return warns_of_word(draft, known, at),
-        Kind::Number => return warns_of_loaded_number(draft, known, at),
-        _ => return false,
-    }
-    let name = known.shown(operand);
-    known.begin(draft, at, at);
-    draft.say(
-        "{} is a truth value, and ! takes it for an address",
-        &[name],
-    );
-    draft.help("write NOT {}", &[name]);
-    true
+    let id = match known.kind(operand) {
+        Kind::Truth => LOADED_TRUTH,
+        Kind::String if is_word_used(known, at) => WORD_OF_STRING,
+        Kind::Number if is_variable(known, operand) => LOADED_NUMBER,
+        _ => return None,
+    };
+    Some(Found::new(id, at).of(operand))
 }

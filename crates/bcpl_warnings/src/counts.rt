@@ -1,9 +1,10 @@
 //! Warnings on a variable of a routine that is meant to keep its value from call to call.
 
+use crate::found::Found;
 use crate::known::Known;
 use bc_parse_tree::BinaryOp;
+use bcpl_catalogue::ids::LOST_COUNT;
 use bcpl_index::{Declared, Form, Sort};
-use bcpl_messages::{Draft, Fill};
 
 /// Whether a block is the body of a routine or the VALOF of a function, other than START.
 fn is_body(known: &Known<'_, '_>, block: usize) -> bool {
@@ -90,25 +91,10 @@ fn lost_count(known: &Known<'_, '_>, definition: usize, index: usize) -> Option<
     }
 }
 
-/// Warns of a variable that is 0 when a routine is called, and to which each call adds 1 once. Returns whether the one of
-/// this definition is.
-pub fn warns_of_lost_count(draft: &mut Draft, known: &Known<'_, '_>, definition: usize) -> bool {
+/// A variable of a definition that is 0 when a routine is called, and to which each call adds 1 once.
+pub fn check_lost_count(known: &Known<'_, '_>, definition: usize) -> Option<Found> {
     let variable = known.tree.first(definition);
-    let Some(index) = known.kinds.names.index_at(variable) else {
-        return false;
-    };
-    let Some(assign) = lost_count(known, definition, index) else {
-        return false;
-    };
-    let name = Fill::Shown(known.tree.text(variable));
-    known.begin(draft, assign, assign);
-    draft.say(
-        "each call has a new {}, which is 0 first, so this always gives 1",
-        &[name],
-    );
-    draft.help(
-        "to keep a value from call to call, declare it outside of the routine: STATIC $( {} = 0 $)",
-        &[name],
-    );
-    true
+    let index = known.kinds.names.index_at(variable)?;
+    let assign = lost_count(known, definition, index)?;
+    Some(Found::new(LOST_COUNT, assign).of(variable))
 }

@@ -1,8 +1,9 @@
 //! Warnings on an assignment to several variables that is meant to happen at once, as in Python.
 
+use crate::found::Found;
 use crate::known::Known;
+use bcpl_catalogue::ids::CROSSED_ASSIGNMENT;
 use bcpl_index::Form;
-use bcpl_messages::Draft;
 
 /// Whether a node uses the variable with this index.
 fn has_use(known: &Known<'_, '_>, at: usize, index: usize) -> bool {
@@ -69,20 +70,8 @@ fn crossed(known: &Known<'_, '_>, at: usize) -> Option<(usize, usize)> {
     None
 }
 
-/// Warns of `A, B := B, A`. Returns whether it is one.
-pub fn warns_of_crossing(draft: &mut Draft, known: &Known<'_, '_>, at: usize) -> bool {
-    let Some((place, source)) = crossed(known, at) else {
-        return false;
-    };
-    let name = known.shown(place);
-    known.begin(draft, source, source);
-    draft.say(
-        "{} has its new value here: an assignment works pair by pair, from left to right",
-        &[name],
-    );
-    draft.help(
-        "keep the old value in another variable before, as in T := {}, and use T here",
-        &[name],
-    );
-    true
+/// `A, B := B, A`: the second pair has the new value of the first one.
+pub fn check_crossing(known: &Known<'_, '_>, at: usize) -> Option<Found> {
+    let (place, source) = crossed(known, at)?;
+    Some(Found::new(CROSSED_ASSIGNMENT, source).of(place))
 }

@@ -1,9 +1,9 @@
 //! Warnings on commands after a call of a routine that ends the run by FINISH.
 
+use crate::found::Found;
 use crate::known::Known;
+use bcpl_catalogue::ids::AFTER_FINISH;
 use bcpl_index::{Form, Sort, Tree};
-use bcpl_messages::{Draft, Fill};
-use bcpl_places::Span;
 
 /// The block of a routine.
 fn block_of(tree: &Tree<'_>, routine: usize) -> usize {
@@ -70,29 +70,18 @@ fn command_after(tree: &Tree<'_>, at: usize) -> Option<usize> {
     }
 }
 
-/// Warns of the command after a call, if the called routine ends the run. Returns whether it does.
-pub fn warns_of_finish(draft: &mut Draft, known: &Known<'_, '_>, at: usize) -> bool {
+/// A command after a call of a routine that ends the run.
+pub fn check_finish(known: &Known<'_, '_>, at: usize) -> Option<Found> {
     let tree = known.tree;
-    let Some(declared) = known.kinds.names.at(tree.first(tree.first(at))) else {
-        return false;
-    };
+    let declared = known.kinds.names.at(tree.first(tree.first(at)))?;
     if declared.sort != Sort::Routine || declared.is_assigned || !finishes(tree, declared.node) {
-        return false;
+        return None;
     }
-    let Some(command) = command_after(tree, at) else {
-        return false;
-    };
-    if let Some(token) = tree.leaf(command) {
-        draft.place(Span {
-            file: token.file,
-            start: token.start,
-            end: token.end,
-        });
-    }
-    draft.say(
-        "warning: this command is never reached: {} ends the run by FINISH",
-        &[Fill::Shown(tree.text(declared.node))],
-    );
-    draft.help("RETURN leaves a routine; FINISH ends the whole run", &[]);
-    true
+    let command = command_after(tree, at)?;
+    let place = known.first_leaf(command)?;
+    Some(
+        Found::new(AFTER_FINISH, command)
+            .of(declared.node)
+            .placed(place),
+    )
 }

@@ -1,11 +1,16 @@
 //! Warnings on formats of WRITEF: arguments of another kind than a letter writes, too many of them, and a percent sign
 //! that is lost.
 
-use crate::calls::{arguments, help_on, is_other, name_of};
+use crate::calls::{arguments, found_other, is_other, name_of};
+use crate::found::Found;
 use crate::known::Known;
 use bc_word::Memory;
+use bcpl_catalogue::ids::{
+    FORMAT_OF_MANY, FORMAT_OF_OTHER_KIND, LOST_PERCENT, MISPLACED_WIDTH, SURPLUS_ARGUMENT,
+    SURPLUS_ARGUMENTS,
+};
 use bcpl_index::{Form, Sort, Wanted};
-use bcpl_messages::{Draft, Fill};
+use bcpl_messages::Draft;
 use std::alloc::Global;
 
 /// The number of EXTHDR's WRITEF.
@@ -126,63 +131,38 @@ fn format_of(draft: &mut Draft, known: &Known<'_, '_>, at: usize) -> Option<Form
     }
 }
 
-/// Warns of an argument that a format's letter writes as something else. Returns whether there is one.
-fn warns_of_letters(draft: &mut Draft, known: &Known<'_, '_>, at: usize, letters: &[u8]) -> bool {
-    let tree = known.tree;
-    let end = tree.end(at);
-    let mut argument = tree.end(tree.second(at));
+/// An argument that a format's letter writes as something else.
+fn check_letters(known: &Known<'_, '_>, at: usize, letters: &[u8]) -> Option<Found> {
+    let end = known.tree.end(at);
+    let mut argument = known.tree.end(known.tree.second(at));
     for letter in letters {
         if argument >= end {
-            return false;
+            return None;
         }
         let wanted = wanted_by(*letter);
-        let fact = known.kinds.fact(argument);
-        if is_other(wanted, &fact) {
-            let sign = [*letter];
-            known.begin(draft, argument, argument);
-            draft.say(
-                "the format writes {} with %{}, which takes {}, but it is {}",
-                &[
-                    known.shown(argument),
-                    Fill::Shown(&sign),
-                    Fill::Text(name_of(wanted)),
-                    Fill::Text(fact.kind.name()),
-                ],
-            );
-            help_on(draft, known, argument, wanted);
-            return true;
+        if is_other(wanted, &known.kinds.fact(argument)) {
+            let found = found_other(known, FORMAT_OF_OTHER_KIND, argument, wanted);
+            let found = found.saying(name_of(wanted));
+            return Some(found.counting(u64::from(*letter), 0));
         }
-        argument = tree.end(argument);
+        argument = known.tree.end(argument);
     }
-    false
+    None
 }
 
-/// Warns of arguments that a format doesn't write. Returns whether there are any.
-fn warns_of_surplus(draft: &mut Draft, known: &Known<'_, '_>, at: usize, taken: usize) -> bool {
+/// Arguments that a format doesn't write.
+fn check_surplus(known: &Known<'_, '_>, at: usize, taken: usize) -> Option<Found> {
     let given = arguments(known, at).saturating_sub(1);
     if given <= taken {
-        return false;
+        return None;
     }
-    let format = known.tree.second(at);
-    known.begin(draft, format, format);
-    draft.say(
-        if taken == 1 {
-            "this format writes {} argument"
-        } else {
-            "this format writes {} arguments"
-        },
-        &[Fill::Number(taken as u64)],
-    );
-    draft.say(
-        if given == 1 {
-            ", but {} follows it"
-        } else {
-            ", but {} follow it"
-        },
-        &[Fill::Number(given as u64)],
-    );
-    draft.help("each argument needs a % with its letter: %N, %S or %C", &[]);
-    true
+    let id = if given == 1 {
+        SURPLUS_ARGUMENT
+    } else {
+        SURPLUS_ARGUMENTS
+    };
+    let found = Found::new(id, known.tree.second(at));
+    Some(found.counting(taken as u64, given as u64))
 }
 
 /// How many arguments LIBHDR's WRITEF passes to a format.
@@ -191,77 +171,55 @@ const MOST: usize = 4;
 /// How many EXTHDR's WRITEF passes.
 const FURTHER_MOST: usize = 11;
 
-/// Warns of a format that takes more arguments than WRITEF has. Returns whether it is one.
-fn warns_of_many(draft: &mut Draft, known: &Known<'_, '_>, at: usize, format: &Format) -> bool {
+/// A format that takes more arguments than WRITEF has.
+fn check_many(known: &Known<'_, '_>, at: usize, format: &Format) -> Option<Found> {
     let taken = format.letters.len();
-    let (most, text) = if format.is_further {
-        (FURTHER_MOST, "11")
+    let most = if format.is_further {
+        FURTHER_MOST
     } else {
-        (MOST, "4")
+        MOST
     };
     if taken <= most {
-        return false;
+        return None;
     }
-    let node = known.tree.second(at);
-    known.begin(draft, node, node);
-    draft.say(
-        "this format takes {} arguments, but WRITEF writes {} at most",
-        &[Fill::Number(taken as u64), Fill::Text(text)],
-    );
-    draft.help("write the others with another WRITEF", &[]);
-    true
+    let found = Found::new(FORMAT_OF_MANY, known.tree.second(at));
+    Some(found.counting(taken as u64, most as u64))
 }
 
-/// Warns of a width before a letter, as in %5N, if an argument isn't written because of it. Returns whether there is one.
-fn warns_of_width(draft: &mut Draft, known: &Known<'_, '_>, at: usize, format: &Format) -> bool {
-    let Some(digit) = format.lost else {
-        return false;
-    };
+/// A width before a letter, as in %5N, if an argument isn't written because of it.
+fn check_width(known: &Known<'_, '_>, at: usize, format: &Format) -> Option<Found> {
+    let digit = format.lost?;
     let given = arguments(known, at).saturating_sub(1);
     if !digit.is_ascii_digit() || given <= format.letters.len() {
-        return false;
+        return None;
     }
-    let sign = [digit];
-    let node = known.tree.second(at);
-    known.begin(draft, node, node);
-    draft.say(
-        "no width comes before a letter: WRITEF writes {} for %{}, and no argument",
-        &[Fill::Shown(&sign), Fill::Shown(&sign)],
-    );
-    draft.help(
-        "write %N; with GET \"EXTHDR\" and --library ext, %I{} writes a number in a field of {}",
-        &[Fill::Shown(&sign), Fill::Shown(&sign)],
-    );
-    true
+    let found = Found::new(MISPLACED_WIDTH, known.tree.second(at));
+    Some(found.counting(u64::from(digit), 0))
 }
 
-/// Warns of a percent sign that is lost. Returns whether there is one.
-fn warns_of_lost(draft: &mut Draft, known: &Known<'_, '_>, at: usize, lost: Option<u8>) -> bool {
-    let Some(lost) = lost else {
-        return false;
-    };
-    let sign = [lost];
-    let format = known.tree.second(at);
-    known.begin(draft, format, format);
-    draft.say(
-        "the % before `{}` in this format isn't written",
-        &[Fill::Shown(&sign)],
-    );
-    draft.help("a percent sign is written %%", &[]);
-    true
+/// A percent sign that is lost.
+fn check_lost(known: &Known<'_, '_>, at: usize, format: &Format) -> Option<Found> {
+    let lost = u64::from(format.lost?);
+    Some(Found::new(LOST_PERCENT, known.tree.second(at)).counting(lost, 0))
 }
 
-/// Warns of the format of a call. Returns whether it does.
-pub fn warns_of_format(draft: &mut Draft, known: &Known<'_, '_>, at: usize) -> bool {
-    let Some(format) = format_of(draft, known, at) else {
-        return false;
-    };
+/// The format of a call. `draft` remembers a failed allocation.
+pub fn check_format(draft: &mut Draft, known: &Known<'_, '_>, at: usize) -> Option<Found> {
+    let format = format_of(draft, known, at)?;
     if format.is_other {
-        return false;
+        return None;
     }
-    warns_of_letters(draft, known, at, format.letters.as_slice())
-        || warns_of_many(draft, known, at, &format)
-        || warns_of_width(draft, known, at, &format)
-        || warns_of_surplus(draft, known, at, format.letters.len())
-        || warns_of_lost(draft, known, at, format.lost)
+    if let Some(found) = check_letters(known, at, format.letters.as_slice()) {
+        return Some(found);
+    }
+    if let Some(found) = check_many(known, at, &format) {
+        return Some(found);
+    }
+    if let Some(found) = check_width(known, at, &format) {
+        return Some(found);
+    }
+    if let Some(found) = check_surplus(known, at, format.letters.len()) {
+        return Some(found);
+    }
+    check_lost(known, at, &format)
 }

@@ -1,9 +1,13 @@
 //! Warnings on habits from other languages: BREAK at the end of each CASE, strings that begin at 0, and functions that are
 //! called for nothing.
 
+use crate::found::Found;
 use crate::known::Known;
+use bcpl_catalogue::ids::{
+    CHARACTER_AS_CONDITION, CLOSING_BREAK, COMPARED_END, COUNTED_FROM_LENGTH, DROPPED_VALUE,
+    REPLACED_BY_NUMBER, REPLACED_BY_STRING, REPLACED_BY_VECTOR, TWO_READS,
+};
 use bcpl_index::{Form, Kind, Sort, Tree};
-use bcpl_messages::Draft;
 
 /// Whether a node is a BREAK after the commands of a CASE in the SWITCHON `switch`.
 fn is_closing_break(tree: &Tree<'_>, at: usize, switch: usize) -> bool {
@@ -45,15 +49,10 @@ fn closing_break(tree: &Tree<'_>, switch: usize) -> Option<usize> {
     }
 }
 
-/// Warns of a SWITCHON whose CASEs end with BREAK. Returns whether they do.
-pub fn warns_of_breaks(draft: &mut Draft, known: &Known<'_, '_>, at: usize) -> bool {
-    let Some(first) = closing_break(known.tree, at) else {
-        return false;
-    };
-    known.begin(draft, first, first);
-    draft.say("this BREAK leaves the loop around the SWITCHON", &[]);
-    draft.help("end the commands of a CASE with ENDCASE", &[]);
-    true
+/// A SWITCHON whose CASEs end with BREAK.
+pub fn check_breaks(known: &Known<'_, '_>, at: usize) -> Option<Found> {
+    let first = closing_break(known.tree, at)?;
+    Some(Found::new(CLOSING_BREAK, first))
 }
 
 /// Whether a call is one of the library's routine with this name.
@@ -77,8 +76,8 @@ fn is_counted_from_zero(known: &Known<'_, '_>, at: usize) -> bool {
     }
 }
 
-/// Warns of WRCH(GETBYTE(S, I)) in a FOR that counts from 0. Returns whether it is one.
-pub fn warns_of_first_byte(draft: &mut Draft, known: &Known<'_, '_>, at: usize) -> bool {
+/// `WRCH(GETBYTE(S, I))` in a FOR that counts from 0.
+pub fn check_first_byte(known: &Known<'_, '_>, at: usize) -> Option<Found> {
     let tree = known.tree;
     let parent = tree.parent(at);
     let index = tree.third(at);
@@ -86,18 +85,9 @@ pub fn warns_of_first_byte(draft: &mut Draft, known: &Known<'_, '_>, at: usize) 
         && matches!(tree.form(parent), Form::Call)
         && is_library_call(known, parent, b"WRCH".as_slice());
     if !is_written || index >= tree.end(at) || !is_counted_from_zero(known, index) {
-        return false;
+        return None;
     }
-    known.begin(draft, index, index);
-    draft.say(
-        "{} counts from 0, and byte 0 of a string is its length",
-        &[known.shown(index)],
-    );
-    draft.help(
-        "the characters are the bytes from 1 on, as in FOR I = 1 TO GETBYTE(S, 0)",
-        &[],
-    );
-    true
+    Some(Found::new(COUNTED_FROM_LENGTH, index))
 }
 
 /// Whether a node is a function that computes a value and does nothing else.
@@ -113,27 +103,16 @@ fn is_pure(tree: &Tree<'_>, at: usize) -> bool {
     true
 }
 
-/// Warns of a command that calls a function which does nothing but compute a value. Returns whether it is one.
-pub fn warns_of_unused_value(draft: &mut Draft, known: &Known<'_, '_>, at: usize) -> bool {
-    let tree = known.tree;
-    let call = tree.first(at);
-    let called = tree.first(call);
-    let Some(declared) = known.kinds.names.at(called) else {
-        return false;
-    };
-    if declared.sort != Sort::Routine || !is_pure(tree, declared.node) {
-        return false;
+/// A command that calls a function which does nothing but compute a value.
+pub fn check_unused_value(known: &Known<'_, '_>, at: usize) -> Option<Found> {
+    let call = known.tree.first(at);
+    let called = known.tree.first(call);
+    let declared = known.kinds.names.at(called)?;
+    if declared.sort == Sort::Routine && is_pure(known.tree, declared.node) {
+        Some(Found::new(DROPPED_VALUE, call).of(called))
+    } else {
+        None
     }
-    known.begin(draft, call, call);
-    draft.say(
-        "the value of {} isn't used, and it does nothing else",
-        &[known.shown(called)],
-    );
-    draft.help(
-        "to keep the value, assign it, as in X := F(1); WRITEN writes a number",
-        &[],
-    );
-    true
 }
 
 /// Whether a node has a call of RDCH in it.
@@ -158,70 +137,45 @@ fn has_valof(tree: &Tree<'_>, at: usize) -> bool {
     false
 }
 
-/// Warns of a WHILE or UNTIL whose condition and body both read a character. Returns whether they do.
-pub fn warns_of_two_reads(draft: &mut Draft, known: &Known<'_, '_>, at: usize) -> bool {
-    let tree = known.tree;
-    let (test, body) = (tree.first(at), tree.second(at));
-    if !reads_character(known, test) || !reads_character(known, body) || has_valof(tree, test) {
-        return false;
+/// A WHILE or UNTIL whose condition and body both read a character.
+pub fn check_two_reads(known: &Known<'_, '_>, at: usize) -> Option<Found> {
+    let (test, body) = known.sides(at);
+    if reads_character(known, test)
+        && reads_character(known, body)
+        && !has_valof(known.tree, test)
+    {
+        Some(Found::new(TWO_READS, test))
+    } else {
+        None
     }
-    known.begin(draft, test, test);
-    draft.say(
-        "this reads a character and drops it, and the loop reads others",
-        &[],
-    );
-    draft.help(
-        "each RDCH() reads the next character; keep it in a variable, as in CH := RDCH()",
-        &[],
-    );
-    true
 }
 
-/// Warns of a number, or another vector's address, that is assigned to a vector's name. Returns whether one is.
-pub fn warns_of_lost_vector(draft: &mut Draft, known: &Known<'_, '_>, at: usize) -> bool {
-    let tree = known.tree;
-    let (place, value) = (tree.first(tree.first(at)), tree.first(tree.second(at)));
-    let is_single = tree.end(place) == tree.second(at);
-    let is_vector = match (tree.form(place), known.kinds.names.at(place)) {
+/// Whether a node is the name of a vector.
+fn is_vector_name(known: &Known<'_, '_>, at: usize) -> bool {
+    match (known.form(at), known.kinds.names.at(at)) {
         (Form::Name, Some(declared)) => declared.sort == Sort::Vector,
         _ => false,
-    };
-    let kind = known.kinds.kind(value);
-    let is_address = matches!(kind, Kind::Vector | Kind::String);
-    if !is_single || !is_vector || !kind.is_plain() && !is_address {
-        return false;
     }
-    let name = known.shown(place);
-    known.begin(draft, place, place);
-    if kind == Kind::String {
-        draft.say(
-            "this replaces the address of the vector {} by that of a string, and copies nothing",
-            &[name],
-        );
-        draft.help(
-            "copy the bytes in a FOR from 0 to GETBYTE(T, 0), as in PUTBYTE({}, I, GETBYTE(T, I))",
-            &[name],
-        );
+}
+
+/// A number, or another vector's address, that is assigned to a vector's name.
+pub fn check_lost_vector(known: &Known<'_, '_>, at: usize) -> Option<Found> {
+    let (places, values) = known.sides(at);
+    let (place, value) = (known.tree.first(places), known.tree.first(values));
+    if known.tree.end(place) != values || !is_vector_name(known, place) {
+        return None;
+    }
+    let kind = known.kind(value);
+    let id = if kind == Kind::String {
+        REPLACED_BY_STRING
     } else if kind == Kind::Vector {
-        draft.say(
-            "this replaces the address of the vector {}, and copies no cell",
-            &[name],
-        );
-        draft.help(
-            "copy the cells in a FOR, as in {}!I := {}!I",
-            &[name, known.shown(value)],
-        );
+        REPLACED_BY_VECTOR
+    } else if kind.is_plain() {
+        REPLACED_BY_NUMBER
     } else {
-        draft.say(
-            "this replaces the address of the vector {} by a number",
-            &[name],
-        );
-        draft.help(
-            "a cell is assigned to as in {}!0 := 1, and all of them by a FOR",
-            &[name],
-        );
-    }
-    true
+        return None;
+    };
+    Some(Found::new(id, place).of(value))
 }
 
 /// Whether a node is the test of a loop that goes on while it is true.
@@ -233,26 +187,15 @@ fn is_loop_test(tree: &Tree<'_>, at: usize) -> bool {
     }
 }
 
-/// Warns of a loop over what is read that goes on while a character is true. Returns whether it is one.
-pub fn warns_of_character_test(draft: &mut Draft, known: &Known<'_, '_>, at: usize) -> bool {
-    let tree = known.tree;
-    if known.kinds.kind(at) != Kind::Character
-        || !is_loop_test(tree, at)
-        || !reads_character(known, tree.parent(at))
+/// `WHILE CH`: a loop over what is read goes on while a character is true.
+pub fn check_character_test(known: &Known<'_, '_>, at: usize) -> Option<Found> {
+    if !known.is(at, Kind::Character)
+        || !is_loop_test(known.tree, at)
+        || !reads_character(known, known.tree.parent(at))
     {
-        return false;
+        return None;
     }
-    let name = known.shown(at);
-    known.begin(draft, at, at);
-    draft.say(
-        "{} is true for each character, and at the end of the input",
-        &[name],
-    );
-    draft.help(
-        "write {} ~= ENDSTREAMCH, which RDCH returns at the end",
-        &[name],
-    );
-    true
+    Some(Found::new(CHARACTER_AS_CONDITION, at))
 }
 
 /// Whether a node is the test of a loop.
@@ -264,24 +207,16 @@ fn is_test_of_loop(tree: &Tree<'_>, at: usize) -> bool {
     }
 }
 
-/// Warns of a loop over what is read that ends with a character 0. Returns whether it is one.
-pub fn warns_of_end(draft: &mut Draft, known: &Known<'_, '_>, at: usize) -> bool {
-    let tree = known.tree;
-    let (left, right) = (tree.first(at), tree.second(at));
-    let is_zero = matches!(tree.form(right), Form::Number(word) if word.get() == 0);
+/// `UNTIL CH = 0`: a loop over what is read ends with a character 0.
+pub fn check_end(known: &Known<'_, '_>, at: usize) -> Option<Found> {
+    let (left, right) = known.sides(at);
+    let is_zero = matches!(known.form(right), Form::Number(word) if word.get() == 0);
     if !is_zero
-        || known.kinds.kind(left) != Kind::Character
-        || !is_test_of_loop(tree, at)
-        || !reads_character(known, tree.parent(at))
+        || !known.is(left, Kind::Character)
+        || !is_test_of_loop(known.tree, at)
+        || !reads_character(known, known.tree.parent(at))
     {
-        return false;
+        return None;
     }
-    let name = known.shown(left);
-    known.begin(draft, at, at);
-    draft.say("{} isn't 0 at the end of the input", &[name]);
-    draft.help(
-        "RDCH returns ENDSTREAMCH there, as in UNTIL {} = ENDSTREAMCH DO ..",
-        &[name],
-    );
-    true
+    Some(Found::new(COMPARED_END, at).of(left))
 }

@@ -1,11 +1,11 @@
 //! Warnings on assignments that were meant for something else: a variable that hides another one and is never read, and
 //! a routine that changes only its own parameters.
 
+use crate::found::Found;
 use crate::known::Known;
 use bc_parse_tree::BinaryOp;
+use bcpl_catalogue::ids::{CHANGED_COPIES, HIDDEN_VARIABLE, SAME_COUNTER};
 use bcpl_index::{Declared, Form, Sort};
-use bcpl_messages::{Draft, Fill};
-use bcpl_places::Span;
 
 /// Whether a declaration of this sort is of a variable, as seen from a block in the same routine or file.
 fn is_variable(sort: Sort) -> bool {
@@ -47,38 +47,17 @@ pub fn is_read_from(known: &Known<'_, '_>, from: usize, index: usize, end: usize
     false
 }
 
-/// Warns of a variable that hides another one and is never read after its declaration. Returns whether it is one.
-pub fn warns_of_hiding(draft: &mut Draft, known: &Known<'_, '_>, at: usize) -> bool {
+/// A variable that hides another one and is never read after its declaration.
+pub fn check_hiding(known: &Known<'_, '_>, at: usize) -> Option<Found> {
     let tree = known.tree;
-    let Some(index) = known.kinds.names.index_at(at) else {
-        return false;
-    };
-    let Some(declared) = known.kinds.names.get(index) else {
-        return false;
-    };
-    let Some(outer) = hidden_by(known, declared) else {
-        return false;
-    };
+    let index = known.kinds.names.index_at(at)?;
+    let declared = known.kinds.names.get(index)?;
+    let outer = hidden_by(known, declared)?;
     let after = tree.end(tree.parent(tree.parent(at)));
     if declared.sort != Sort::Variable || is_read_from(known, after, index, declared.end) {
-        return false;
+        return None;
     }
-    let name = Fill::Shown(tree.text(declared.node));
-    known.begin(draft, at, at);
-    draft.say("this is another {}, which is never read", &[name]);
-    if let Some(token) = tree.leaf(outer) {
-        let place = Span {
-            file: token.file,
-            start: token.start,
-            end: token.end,
-        };
-        draft.note(place, "it hides the {} that is declared here", &[name]);
-    }
-    draft.help(
-        "to assign to the one that exists, leave out LET and write :=",
-        &[],
-    );
-    true
+    Some(Found::new(HIDDEN_VARIABLE, at).with(at, outer))
 }
 
 /// Whether a product in a node is the square of the variable with this index.
@@ -95,30 +74,18 @@ fn has_square(known: &Known<'_, '_>, at: usize, index: usize) -> bool {
     false
 }
 
-/// Warns of a FOR whose variable hides that of a FOR around it, and is squared: both were meant. Returns whether it is one.
-pub fn warns_of_same_counter(draft: &mut Draft, known: &Known<'_, '_>, at: usize) -> bool {
-    let tree = known.tree;
-    let variable = tree.first(at);
-    let Some(index) = known.kinds.names.index_at(variable) else {
-        return false;
-    };
-    let Some(declared) = known.kinds.names.get(index) else {
-        return false;
-    };
-    let Some(outer) = hidden_by(known, declared) else {
-        return false;
-    };
-    if !matches!(tree.form_of_parent(outer), Form::For) || !has_square(known, at, index) {
-        return false;
+/// A FOR whose variable hides that of a FOR around it, and is squared: both were meant.
+pub fn check_same_counter(known: &Known<'_, '_>, at: usize) -> Option<Found> {
+    let variable = known.tree.first(at);
+    let index = known.kinds.names.index_at(variable)?;
+    let declared = known.kinds.names.get(index)?;
+    let outer = hidden_by(known, declared)?;
+    let is_counter = matches!(known.tree.form_of_parent(outer), Form::For);
+    if is_counter && has_square(known, at, index) {
+        Some(Found::new(SAME_COUNTER, variable))
+    } else {
+        None
     }
-    let name = Fill::Shown(tree.text(variable));
-    known.begin(draft, variable, variable);
-    draft.say(
-        "this FOR has another {}, which hides that of the FOR around it",
-        &[name],
-    );
-    draft.help("give the variable of one of them another name", &[]);
-    true
 }
 
 /// What an assignment's left side is.
@@ -177,26 +144,12 @@ fn has_no_effect(known: &Known<'_, '_>, at: usize) -> bool {
     has_parameter
 }
 
-/// Warns of a routine without an effect, because it assigns only to copies. Returns whether it is one.
-pub fn warns_of_copies(draft: &mut Draft, known: &Known<'_, '_>, at: usize) -> bool {
-    let Some(token) = known.tree.leaf(at) else {
-        return false;
-    };
-    if !has_no_effect(known, at) {
-        return false;
+/// A routine without an effect, because it assigns only to copies.
+pub fn check_copies(known: &Known<'_, '_>, at: usize) -> Option<Found> {
+    let place = known.first_leaf(at)?;
+    if has_no_effect(known, at) {
+        Some(Found::new(CHANGED_COPIES, at).placed(place))
+    } else {
+        None
     }
-    draft.place(Span {
-        file: token.file,
-        start: token.start,
-        end: token.end,
-    });
-    draft.say(
-        "warning: {} has no effect: it assigns only to its parameters, which are copies of the arguments",
-        &[Fill::Shown(token.text)],
-    );
-    draft.help(
-        "pass addresses, as in SWAP(@X, @Y), and assign to !A in the routine",
-        &[],
-    );
-    true
 }

@@ -4,8 +4,10 @@ use crate::flow::Flow;
 use crate::kinds::Kinds;
 use bc_lex::Source;
 use bc_parse_tree::{BinaryOp, UnaryOp};
-use bcpl_index::{Form, Sort, Tree};
+use bc_word::Word;
+use bcpl_index::{Form, Kind, Sort, Tree};
 use bcpl_messages::{Draft, Fill};
+use bcpl_places::Span;
 
 /// A main, and what was found out about it.
 #[derive(Clone, Copy)]
@@ -206,6 +208,49 @@ impl<'s> Known<'_, 's> {
             }
         }
         self.kinds.value(at).is_some()
+    }
+
+    /// The form of a node.
+    pub fn form(&self, at: usize) -> Form {
+        self.tree.form(at)
+    }
+
+    /// The first two nodes in a node.
+    pub fn sides(&self, at: usize) -> (usize, usize) {
+        (self.tree.first(at), self.tree.second(at))
+    }
+
+    /// What the value of a node is.
+    pub fn kind(&self, at: usize) -> Kind {
+        self.kinds.kind(at)
+    }
+
+    /// Whether the value of a node is of this kind.
+    pub fn is(&self, at: usize, kind: Kind) -> bool {
+        self.kinds.kind(at) == kind
+    }
+
+    /// The value of a node, if it is known.
+    pub fn value(&self, at: usize) -> Option<Word> {
+        self.kinds.value(at)
+    }
+
+    /// Whether a node is known to have this value.
+    pub fn has_value(&self, at: usize, value: u16) -> bool {
+        match self.kinds.value(at) {
+            Some(word) => word.get() == value,
+            None => false,
+        }
+    }
+
+    /// The place of the first leaf of a node.
+    pub fn first_leaf(&self, at: usize) -> Option<Span> {
+        let token = self.tree.leaf(at)?;
+        Some(Span {
+            file: token.file,
+            start: token.start,
+            end: token.end,
+        })
     }
 
     /// A node's text, as a part of a sentence.

@@ -1,11 +1,12 @@
 //! Warnings on a vector that is written as a string, and whose length nothing sets.
 
+use crate::found::Found;
 use crate::habits::is_library_call;
 use crate::known::Known;
 use crate::loops::counting_of;
 use bc_parse_tree::BinaryOp;
+use bcpl_catalogue::ids::UNSET_LENGTH;
 use bcpl_index::{Declared, Form, Sort};
-use bcpl_messages::Draft;
 
 /// How many nodes after a vector's declaration are searched.
 const MOST: usize = 2000;
@@ -158,31 +159,17 @@ fn lacks_length(known: &Known<'_, '_>, declared: &Declared, index: usize) -> boo
     stored.lacks_length()
 }
 
-/// Warns of a call of WRITES with a vector whose length nothing sets. Returns whether it is one.
-pub fn warns_of_length(draft: &mut Draft, known: &Known<'_, '_>, at: usize) -> bool {
+/// A call of WRITES with a vector whose length nothing sets.
+pub fn check_length(known: &Known<'_, '_>, at: usize) -> Option<Found> {
     let tree = known.tree;
     let vector = tree.second(at);
     if !is_library_call(known, at, b"WRITES".as_slice()) || vector >= tree.end(at) {
-        return false;
+        return None;
     }
-    let Some(index) = known.kinds.names.index_at(vector) else {
-        return false;
-    };
-    let Some(declared) = known.kinds.names.get(index) else {
-        return false;
-    };
+    let index = known.kinds.names.index_at(vector)?;
+    let declared = known.kinds.names.get(index)?;
     if declared.sort != Sort::Vector || !lacks_length(known, declared, index) {
-        return false;
+        return None;
     }
-    let name = known.shown(vector);
-    known.begin(draft, vector, vector);
-    draft.say(
-        "WRITES writes as many characters as byte 0 of {} says, and nothing sets it to their number",
-        &[name],
-    );
-    draft.help(
-        "the characters are the bytes 1 to N, after PUTBYTE({}, 0, N); no 0 is needed at the end",
-        &[name],
-    );
-    true
+    Some(Found::new(UNSET_LENGTH, vector))
 }

@@ -17,6 +17,7 @@ mod finishing;
 mod flow;
 mod format_arguments;
 mod formats;
+mod found;
 mod globals;
 mod habits;
 mod hiding;

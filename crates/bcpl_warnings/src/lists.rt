@@ -1,10 +1,10 @@
 //! Warnings on where control goes: a VALOF that can end without RESULTIS, and a CASE that falls through.
 
 use crate::flow::Cases;
+use crate::found::Found;
 use crate::known::Known;
+use bcpl_catalogue::ids::{FALL_THROUGH, VALOF_WITHOUT_END, VALOF_WITHOUT_RESULT};
 use bcpl_index::{Form, Tree};
-use bcpl_messages::Draft;
-use bcpl_places::Span;
 
 /// Whether a VALOF has a RESULTIS, apart from those of inner VALOFs.
 fn has_own_result(known: &Known<'_, '_>, at: usize) -> bool {
@@ -17,33 +17,18 @@ fn has_own_result(known: &Known<'_, '_>, at: usize) -> bool {
     false
 }
 
-/// Warns of a VALOF that can end without RESULTIS. Returns whether it can.
-pub fn warns_of_valof(draft: &mut Draft, known: &Known<'_, '_>, at: usize) -> bool {
-    let tree = known.tree;
-    if !known.flow.is_reached(tree.first(at)) {
-        return false;
+/// A VALOF that can end without RESULTIS.
+pub fn check_valof(known: &Known<'_, '_>, at: usize) -> Option<Found> {
+    if !known.flow.is_reached(known.tree.first(at)) {
+        return None;
     }
-    if let Some(token) = tree.leaf(at) {
-        draft.place(Span {
-            file: token.file,
-            start: token.start,
-            end: token.end,
-        });
-    }
-    let (sentence, help) = if has_own_result(known, at) {
-        (
-            "warning: this VALOF can end without a RESULTIS",
-            "its value is 0 then; end it with a RESULTIS for what is left",
-        )
+    let place = known.first_leaf(at)?;
+    let id = if has_own_result(known, at) {
+        VALOF_WITHOUT_END
     } else {
-        (
-            "warning: this VALOF has no RESULTIS, so its value is always 0",
-            "give it a value with RESULTIS E; declare a routine without a value with BE",
-        )
+        VALOF_WITHOUT_RESULT
     };
-    draft.say(sentence, &[]);
-    draft.help(help, &[]);
-    true
+    Some(Found::new(id, at).placed(place))
 }
 
 /// Whether there is a comment before a node, after the leaf before it.
@@ -105,26 +90,14 @@ fn is_odd(tree: &Tree<'_>, switch: usize, at: usize, cases: &Cases) -> bool {
         || cases.falls <= cases.stops && !is_preparation(tree, item_before(tree, switch, at))
 }
 
-/// Warns of the first CASE of a SWITCHON that is reached from the one before, if that is probably a mistake. Returns
-/// whether it does.
-pub fn warns_of_cases(draft: &mut Draft, known: &Known<'_, '_>, switch: usize) -> bool {
+/// The first CASE of a SWITCHON that is reached from the one before, if that is probably a mistake.
+pub fn check_cases(known: &Known<'_, '_>, switch: usize) -> Option<Found> {
     let tree = known.tree;
     let cases = known.flow.cases(tree, switch);
-    let Some(at) = cases.first else {
-        return false;
-    };
-    if !is_odd(tree, switch, at, &cases) || has_comment(known, at) {
-        return false;
+    let at = cases.first?;
+    if is_odd(tree, switch, at, &cases) && !has_comment(known, at) {
+        Some(Found::new(FALL_THROUGH, tree.first(at)))
+    } else {
+        None
     }
-    let label = tree.first(at);
-    known.begin(draft, label, label);
-    draft.say(
-        "control falls from the commands before into this {}",
-        &[known.shown(label)],
-    );
-    draft.help(
-        "end the commands before with ENDCASE; if you mean to fall through, say so in a comment before the label",
-        &[],
-    );
-    true
 }

@@ -1,11 +1,14 @@
 //! Warnings on FOR loops that do nothing or never end, and the numbers that one counts through.
 
-use crate::calls::{is_negative, warns_of_large};
+use crate::calls::{check_large, is_negative};
+use crate::found::Found;
 use crate::habits::is_library_call;
 use crate::known::Known;
 use bc_word::Word;
+use bcpl_catalogue::ids::{
+    EMPTY_COUNT_DOWN, EMPTY_COUNT_UP, ENDLESS_COUNT_DOWN, ENDLESS_COUNT_UP, READ_LIMIT, STEP_ZERO,
+};
 use bcpl_index::{Form, Kind, Sort};
-use bcpl_messages::Draft;
 
 /// The numbers of a FOR.
 #[derive(Clone, Copy)]
@@ -47,10 +50,10 @@ pub fn counting_of(known: &Known<'_, '_>, at: usize) -> Counting {
         start_at,
         limit_at,
         last_at: if has_step { step_at } else { limit_at },
-        start: known.kinds.value(start_at),
-        limit: known.kinds.value(limit_at),
+        start: known.value(start_at),
+        limit: known.value(limit_at),
         step: if has_step {
-            known.kinds.value(step_at)
+            known.value(step_at)
         } else {
             Some(Word::new(1))
         },
@@ -106,69 +109,44 @@ impl Counting {
     }
 }
 
-/// Warns of a FOR without a round. Returns whether it has none.
-fn warns_of_nothing(draft: &mut Draft, known: &Known<'_, '_>, counting: &Counting) -> bool {
-    let (Some(start), Some(limit), Some(step)) = (counting.start, counting.limit, counting.step)
-    else {
-        return false;
-    };
+/// `FOR I = 10 TO 1`: a FOR without a round.
+fn check_nothing(known: &Known<'_, '_>, counting: &Counting) -> Option<Found> {
+    let (start, limit, step) = (counting.start?, counting.limit?, counting.step?);
     let is_literal = counting.is_literal(known);
     if !is_literal && !counting.starts_at_variable(known) {
-        return false;
+        return None;
     }
     let is_up = !is_negative(step) && step.get() != 0 && rank(start) > rank(limit);
     let is_down = is_negative(step) && rank(start) < rank(limit) && is_literal;
     if !is_up && !is_down {
-        return false;
+        return None;
     }
-    if warns_of_large(draft, known, counting.limit_at)
-        || warns_of_large(draft, known, counting.start_at)
-    {
-        return true;
+    if let Some(found) = check_large(known, counting.limit_at) {
+        return Some(found);
     }
-    known.begin(draft, counting.start_at, counting.last_at);
-    let (sentence, help) = if is_up {
-        (
-            "this FOR does nothing: it counts up, and {} is greater than {}",
-            "to count down, write BY -1 after the limit",
-        )
+    if let Some(found) = check_large(known, counting.start_at) {
+        return Some(found);
+    }
+    let id = if is_up {
+        EMPTY_COUNT_UP
     } else {
-        (
-            "this FOR does nothing: it counts down, and {} is less than {}",
-            "to count up, leave out BY",
-        )
+        EMPTY_COUNT_DOWN
     };
-    draft.say(
-        sentence,
-        &[
-            known.shown(counting.start_at),
-            known.shown(counting.limit_at),
-        ],
-    );
-    draft.help(help, &[]);
-    true
+    let found = Found::new(id, counting.start_at).of(counting.limit_at);
+    Some(found.to(counting.last_at))
 }
 
-/// Why a FOR doesn't end, and what to do.
-fn endless(counting: &Counting) -> Option<(&'static str, &'static str)> {
+/// The id of the finding that a FOR doesn't end.
+fn endless(counting: &Counting) -> Option<u16> {
     let step = counting.step?;
     if step.get() == 0 {
-        return Some((
-            "this FOR never ends: BY 0 doesn't change its variable",
-            "to count by 1, leave out BY",
-        ));
+        return Some(STEP_ZERO);
     }
     let limit = counting.limit?;
     if !is_negative(step) && limit.get() == MOST {
-        Some((
-            "this FOR never ends: no number is greater than 32767",
-            "after 32767 comes -32768; count to 32766, or leave the loop by BREAK",
-        ))
+        Some(ENDLESS_COUNT_UP)
     } else if is_negative(step) && limit.get() == LEAST {
-        Some((
-            "this FOR never ends: no number is less than -32768",
-            "before -32768 comes 32767; count to -32767, or leave the loop by BREAK",
-        ))
+        Some(ENDLESS_COUNT_DOWN)
     } else {
         None
     }
@@ -189,39 +167,28 @@ pub fn is_read_once(known: &Known<'_, '_>, at: usize) -> bool {
         && is_library_call(known, value, b"RDCH".as_slice())
 }
 
-/// Warns of a FOR that counts from a number to a character that was read. Returns whether it does.
-fn warns_of_read_limit(draft: &mut Draft, known: &Known<'_, '_>, counting: &Counting) -> bool {
+/// `FOR I = 1 TO CH`: a FOR counts from a number to a character that was read.
+fn check_read_limit(known: &Known<'_, '_>, counting: &Counting) -> Option<Found> {
     let limit = counting.limit_at;
-    if known.kinds.kind(counting.start_at) != Kind::Number || !is_read_once(known, limit) {
-        return false;
+    if known.is(counting.start_at, Kind::Number) && is_read_once(known, limit) {
+        Some(Found::new(READ_LIMIT, limit))
+    } else {
+        None
     }
-    let name = known.shown(limit);
-    known.begin(draft, limit, limit);
-    draft.say(
-        "{} is a character, whose code isn't the digit that it shows",
-        &[name],
-    );
-    draft.help(
-        "the number that a digit shows is {} - '0'; READN of EXTHDR reads a number",
-        &[name],
-    );
-    true
 }
 
-/// Warns of a FOR. Returns whether it does.
-pub fn warns_of_for(draft: &mut Draft, known: &Known<'_, '_>, at: usize) -> bool {
+/// What is wrong with the numbers of a FOR.
+pub fn check_for(known: &Known<'_, '_>, at: usize) -> Option<Found> {
     let counting = counting_of(known, at);
-    if warns_of_nothing(draft, known, &counting) || warns_of_read_limit(draft, known, &counting) {
-        return true;
+    if let Some(found) = check_nothing(known, &counting) {
+        return Some(found);
     }
-    let Some((sentence, help)) = endless(&counting) else {
-        return false;
-    };
+    if let Some(found) = check_read_limit(known, &counting) {
+        return Some(found);
+    }
+    let id = endless(&counting)?;
     if known.flow.has_jump(known.tree, at) {
-        return false;
+        return None;
     }
-    known.begin(draft, counting.start_at, counting.last_at);
-    draft.say(sentence, &[]);
-    draft.help(help, &[]);
-    true
+    Some(Found::new(id, counting.start_at).to(counting.last_at))
 }

@@ -1,37 +1,38 @@
 //! The warnings on the mains of an accepted program: those that the tokens show, and those on how values are used.
 
-use crate::addresses::{warns_of_assignment, warns_of_result};
+use crate::addresses::{check_assignment, check_result};
 use crate::arithmetic::{
-    warns_of_compared_digit, warns_of_digit, warns_of_digit_cases, warns_of_fraction,
-    warns_of_product, warns_of_total,
+    check_compared_digit, check_digit, check_digit_cases, check_fraction, check_product,
+    check_total,
 };
-use crate::calls::warns_of_call;
-use crate::conditions::{is_not, warns_of_dyadic, warns_of_load, warns_of_name, warns_of_not};
-use crate::counts::warns_of_lost_count;
-use crate::crossing::warns_of_crossing;
+use crate::calls::check_call;
+use crate::conditions::{check_dyadic, check_load, check_name, check_not, is_not};
+use crate::counts::check_lost_count;
+use crate::crossing::check_crossing;
 use crate::endless::warns_of_endless;
-use crate::finishing::warns_of_finish;
-use crate::format_arguments::warns_of_format;
+use crate::finishing::check_finish;
+use crate::format_arguments::check_format;
+use crate::found::{Found, says};
 use crate::habits::{
-    warns_of_breaks, warns_of_character_test, warns_of_first_byte, warns_of_lost_vector,
-    warns_of_two_reads, warns_of_unused_value,
+    check_breaks, check_character_test, check_first_byte, check_lost_vector, check_two_reads,
+    check_unused_value,
 };
-use crate::hiding::{warns_of_copies, warns_of_hiding, warns_of_same_counter};
+use crate::hiding::{check_copies, check_hiding, check_same_counter};
 use crate::known::Known;
-use crate::lengths::warns_of_length;
-use crate::lists::{warns_of_cases, warns_of_valof};
-use crate::loops::warns_of_for;
-use crate::operands::{warns_of_counted_truth, warns_of_shifted_relation};
-use crate::own_values::warns_of_own_value;
-use crate::packing::warns_of_unpacked;
-use crate::passed::{warns_of_called_variable, warns_of_passed_address};
-use crate::reading::{warns_of_end_of_input, warns_of_second_read};
-use crate::recursions::warns_of_recursion;
-use crate::rounds::warns_of_one_round;
-use crate::starting::{warns_of_no_round, warns_of_passing, warns_of_start};
-use crate::streams::warns_of_stream;
-use crate::subscripts::{warns_of_divisor, warns_of_index, warns_of_shift};
-use crate::swaps::warns_of_swap;
+use crate::lengths::check_length;
+use crate::lists::{check_cases, check_valof};
+use crate::loops::check_for;
+use crate::operands::{check_counted_truth, check_shifted_relation};
+use crate::own_values::check_own_value;
+use crate::packing::check_unpacked;
+use crate::passed::{check_called_variable, check_passed_address};
+use crate::reading::{check_end_of_input, check_second_read};
+use crate::recursions::check_recursion;
+use crate::rounds::check_one_round;
+use crate::starting::{check_no_round, check_passing, check_start};
+use crate::streams::check_stream;
+use crate::subscripts::{check_divisor, check_index, check_shift};
+use crate::swaps::check_swap;
 use crate::warning::warnings;
 use bc_build::Parsed;
 use bc_lex::Source;
@@ -45,112 +46,205 @@ use std::alloc::Global;
 /// At most this many warnings are printed.
 const MOST: usize = 10;
 
-/// Warns of a sum.
-fn warn_of_sum(draft: &mut Draft, known: &Known<'_, '_>, at: usize) {
-    if !warns_of_digit(draft, known, at) && !warns_of_total(draft, known, at) {
-        warns_of_counted_truth(draft, known, at);
+/// A sum.
+fn check_sum(known: &Known<'_, '_>, at: usize) -> Option<Found> {
+    if let Some(found) = check_digit(known, at) {
+        return Some(found);
+    }
+    if let Some(found) = check_total(known, at) {
+        return Some(found);
+    }
+    check_counted_truth(known, at)
+}
+
+/// A quotient or remainder.
+fn check_division(known: &Known<'_, '_>, at: usize, sign: BinaryOp) -> Option<Found> {
+    if let Some(found) = check_divisor(known, at) {
+        return Some(found);
+    }
+    if sign == BinaryOp::Divide {
+        check_fraction(known, at)
+    } else {
+        None
     }
 }
 
-/// Warns of an operator with two operands.
-fn warn_of_operator(draft: &mut Draft, known: &Known<'_, '_>, at: usize, sign: BinaryOp) {
-    if warns_of_dyadic(draft, known, at, sign) || warns_of_compared_digit(draft, known, at, sign) {
-        return;
+/// A product, or a shift, of which an operand may be a relation.
+fn check_scaling(known: &Known<'_, '_>, at: usize, sign: BinaryOp) -> Option<Found> {
+    if sign == BinaryOp::Multiply {
+        return match check_product(known, at) {
+            Some(found) => Some(found),
+            None => check_counted_truth(known, at),
+        };
+    }
+    match check_shifted_relation(known, at) {
+        Some(found) => Some(found),
+        None => check_shift(known, at),
+    }
+}
+
+/// An operator with two operands.
+fn check_operator(known: &Known<'_, '_>, at: usize, sign: BinaryOp) -> Option<Found> {
+    if let Some(found) = check_dyadic(known, at, sign) {
+        return Some(found);
+    }
+    if let Some(found) = check_compared_digit(known, at, sign) {
+        return Some(found);
     }
     match sign {
-        BinaryOp::Multiply => {
-            if !warns_of_product(draft, known, at) {
-                warns_of_counted_truth(draft, known, at);
-            }
+        BinaryOp::Multiply | BinaryOp::ShiftLeft | BinaryOp::ShiftRight => {
+            check_scaling(known, at, sign)
         }
-        BinaryOp::Add => warn_of_sum(draft, known, at),
-        BinaryOp::Index => {
-            warns_of_index(draft, known, at);
-        }
-        BinaryOp::Divide | BinaryOp::Remainder => {
-            if !warns_of_divisor(draft, known, at) && sign == BinaryOp::Divide {
-                warns_of_fraction(draft, known, at);
-            }
-        }
-        BinaryOp::ShiftLeft | BinaryOp::ShiftRight => {
-            if !warns_of_shifted_relation(draft, known, at, sign) {
-                warns_of_shift(draft, known, at);
-            }
-        }
-        _ => {}
+        BinaryOp::Add => check_sum(known, at),
+        BinaryOp::Index => check_index(known, at),
+        BinaryOp::Divide | BinaryOp::Remainder => check_division(known, at, sign),
+        _ => None,
     }
 }
 
-/// Warns of a call for its arguments' addresses or its name. Returns whether it does.
-fn warns_of_further_call(draft: &mut Draft, known: &Known<'_, '_>, at: usize) -> bool {
-    warns_of_passed_address(draft, known, at)
-        || warns_of_called_variable(draft, known, at)
-        || warns_of_length(draft, known, at)
+/// A call, for the vectors that it passes, its name, and the routine that it is in.
+fn check_further_call(known: &Known<'_, '_>, at: usize) -> Option<Found> {
+    if let Some(found) = check_first_byte(known, at) {
+        return Some(found);
+    }
+    if let Some(found) = check_unpacked(known, at) {
+        return Some(found);
+    }
+    if let Some(found) = check_passed_address(known, at) {
+        return Some(found);
+    }
+    if let Some(found) = check_called_variable(known, at) {
+        return Some(found);
+    }
+    if let Some(found) = check_length(known, at) {
+        return Some(found);
+    }
+    check_recursion(known, at)
 }
 
-/// Adds a warning on a call.
-fn warn_of_call(draft: &mut Draft, known: &Known<'_, '_>, at: usize) {
-    if !warns_of_call(draft, known, at)
-        && !warns_of_format(draft, known, at)
-        && !warns_of_first_byte(draft, known, at)
-        && !warns_of_unpacked(draft, known, at)
-        && !warns_of_further_call(draft, known, at)
-    {
-        warns_of_recursion(draft, known, at);
+/// A call. `draft` remembers a failed allocation.
+fn check_any_call(draft: &mut Draft, known: &Known<'_, '_>, at: usize) -> Option<Found> {
+    if let Some(found) = check_call(known, at) {
+        return Some(found);
+    }
+    if let Some(found) = check_format(draft, known, at) {
+        return Some(found);
+    }
+    check_further_call(known, at)
+}
+
+/// How often a WHILE or UNTIL comes to its body.
+fn check_rounds(known: &Known<'_, '_>, at: usize) -> Option<Found> {
+    if let Some(found) = check_no_round(known, at) {
+        return Some(found);
+    }
+    if let Some(found) = check_one_round(known, at) {
+        return Some(found);
+    }
+    check_passing(known, at)
+}
+
+/// What a WHILE or UNTIL reads.
+fn check_reads(known: &Known<'_, '_>, at: usize) -> Option<Found> {
+    match check_two_reads(known, at) {
+        Some(found) => Some(found),
+        None => check_end_of_input(known, at),
     }
 }
 
 /// Adds a warning on a WHILE or UNTIL.
 fn warn_of_loop(draft: &mut Draft, known: &Known<'_, '_>, at: usize) {
-    if !warns_of_no_round(draft, known, at)
-        && !warns_of_one_round(draft, known, at)
-        && !warns_of_passing(draft, known, at)
-        && !warns_of_endless(draft, known, at)
-        && !warns_of_two_reads(draft, known, at)
-    {
-        warns_of_end_of_input(draft, known, at);
+    if !says(draft, known, check_rounds(known, at)) && !warns_of_endless(draft, known, at) {
+        says(draft, known, check_reads(known, at));
     }
 }
 
-/// Adds a warning on a command or a declaration.
-fn warn_of_more(draft: &mut Draft, known: &Known<'_, '_>, at: usize, form: Form) {
+/// Adds a warning on a REPEATWHILE or REPEATUNTIL.
+fn warn_of_repeat(draft: &mut Draft, known: &Known<'_, '_>, at: usize) {
+    if !warns_of_endless(draft, known, at) {
+        says(draft, known, check_end_of_input(known, at));
+    }
+}
+
+/// A SWITCHON.
+fn check_switch(known: &Known<'_, '_>, at: usize) -> Option<Found> {
+    if let Some(found) = check_breaks(known, at) {
+        return Some(found);
+    }
+    if let Some(found) = check_digit_cases(known, at) {
+        return Some(found);
+    }
+    check_cases(known, at)
+}
+
+/// A definition of variables.
+fn check_variables(known: &Known<'_, '_>, at: usize) -> Option<Found> {
+    if let Some(found) = check_own_value(known, at) {
+        return Some(found);
+    }
+    if let Some(found) = check_stream(known, at) {
+        return Some(found);
+    }
+    check_lost_count(known, at)
+}
+
+/// A FOR.
+fn check_counting(known: &Known<'_, '_>, at: usize) -> Option<Found> {
+    if let Some(found) = check_for(known, at) {
+        return Some(found);
+    }
+    if let Some(found) = check_one_round(known, at) {
+        return Some(found);
+    }
+    check_same_counter(known, at)
+}
+
+/// An assignment.
+fn check_assigned(known: &Known<'_, '_>, at: usize) -> Option<Found> {
+    if let Some(found) = check_assignment(known, at) {
+        return Some(found);
+    }
+    if let Some(found) = check_crossing(known, at) {
+        return Some(found);
+    }
+    check_lost_vector(known, at)
+}
+
+/// A command or a declaration.
+fn check_command(known: &Known<'_, '_>, at: usize, form: Form) -> Option<Found> {
     match form {
-        Form::While | Form::Until => warn_of_loop(draft, known, at),
-        Form::RepeatWhile | Form::RepeatUntil => {
-            if !warns_of_endless(draft, known, at) {
-                warns_of_end_of_input(draft, known, at);
-            }
-        }
-        Form::If => {
-            warns_of_swap(draft, known, at);
-        }
-        Form::Test => {
-            warns_of_second_read(draft, known, at);
-        }
-        Form::SwitchOn => {
-            if !warns_of_breaks(draft, known, at) && !warns_of_digit_cases(draft, known, at) {
-                warns_of_cases(draft, known, at);
-            }
-        }
-        Form::Do => {
-            if !warns_of_unused_value(draft, known, at) {
-                warns_of_finish(draft, known, at);
-            }
-        }
-        Form::Variable => {
-            warns_of_hiding(draft, known, at);
-        }
-        Form::Variables => {
-            if !warns_of_own_value(draft, known, at) && !warns_of_stream(draft, known, at) {
-                warns_of_lost_count(draft, known, at);
-            }
-        }
-        Form::Routine => {
-            if !warns_of_copies(draft, known, at) {
-                warns_of_start(draft, known, at);
-            }
-        }
-        _ => {}
+        Form::If => check_swap(known, at),
+        Form::Test => check_second_read(known, at),
+        Form::SwitchOn => check_switch(known, at),
+        Form::Do => match check_unused_value(known, at) {
+            Some(found) => Some(found),
+            None => check_finish(known, at),
+        },
+        Form::For => check_counting(known, at),
+        Form::Assign => check_assigned(known, at),
+        Form::ResultIs => check_result(known, at),
+        Form::Variable => check_hiding(known, at),
+        Form::Variables => check_variables(known, at),
+        Form::Routine => match check_copies(known, at) {
+            Some(found) => Some(found),
+            None => check_start(known, at),
+        },
+        _ => None,
+    }
+}
+
+/// An expression other than a call.
+fn check_expression(known: &Known<'_, '_>, at: usize, form: Form) -> Option<Found> {
+    match form {
+        Form::Bin(sign) => check_operator(known, at, sign),
+        Form::Unary(sign) if is_not(sign) => check_not(known, at),
+        Form::Unary(UnaryOp::Load) => check_load(known, at),
+        Form::Name => match check_name(known, at) {
+            Some(found) => Some(found),
+            None => check_character_test(known, at),
+        },
+        Form::Valof => check_valof(known, at),
+        _ => check_command(known, at, form),
     }
 }
 
@@ -174,38 +268,13 @@ pub(crate) fn may_be_warned_of(form: Form) -> bool {
 
 /// Adds the first warning that applies to a node, which has this form.
 pub(crate) fn warn_of_use(draft: &mut Draft, known: &Known<'_, '_>, at: usize, form: Form) {
-    match form {
-        Form::Call => warn_of_call(draft, known, at),
-        Form::Bin(sign) => warn_of_operator(draft, known, at, sign),
-        Form::Unary(sign) if is_not(sign) => {
-            warns_of_not(draft, known, at);
-        }
-        Form::Unary(UnaryOp::Load) => {
-            warns_of_load(draft, known, at);
-        }
-        Form::Name => {
-            if !warns_of_name(draft, known, at) {
-                warns_of_character_test(draft, known, at);
-            }
-        }
-        Form::For => {
-            if !warns_of_for(draft, known, at) && !warns_of_one_round(draft, known, at) {
-                warns_of_same_counter(draft, known, at);
-            }
-        }
-        Form::Valof => {
-            warns_of_valof(draft, known, at);
-        }
-        Form::ResultIs => {
-            warns_of_result(draft, known, at);
-        }
-        Form::Assign => {
-            if !warns_of_assignment(draft, known, at) && !warns_of_crossing(draft, known, at) {
-                warns_of_lost_vector(draft, known, at);
-            }
-        }
-        _ => warn_of_more(draft, known, at, form),
-    }
+    let found = match form {
+        Form::While | Form::Until => return warn_of_loop(draft, known, at),
+        Form::RepeatWhile | Form::RepeatUntil => return warn_of_repeat(draft, known, at),
+        Form::Call => check_any_call(draft, known, at),
+        _ => check_expression(known, at, form),
+    };
+    says(draft, known, found);
 }
 
 /// The warnings on the mains of an accepted program, in text order. `parsed` is what the mains were parsed to, in their

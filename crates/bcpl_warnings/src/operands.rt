@@ -1,95 +1,31 @@
 //! Warnings on relations that are operands of shifts, sums and products.
 
 use crate::conditions::relation_at;
-use crate::known::{Known, sign_of};
+use crate::found::Found;
+use crate::known::Known;
 use bc_parse_tree::{BinaryOp, UnaryOp};
+use bcpl_catalogue::ids::{COUNTED_TRUTH, RELATION_AFTER_SHIFT, RELATION_BEFORE_SHIFT};
 use bcpl_index::Form;
-use bcpl_messages::{Draft, Fill};
 
-/// The operator of a relation without parentheses of its own; `None` if the node isn't one.
-fn bare_relation(known: &Known<'_, '_>, at: usize) -> Option<BinaryOp> {
-    let relation = relation_at(known, at)?;
-    if known.is_parenthesised(at) {
-        None
-    } else {
-        Some(relation)
+/// Whether a node is a relation without parentheses of its own.
+fn is_bare_relation(known: &Known<'_, '_>, at: usize) -> bool {
+    relation_at(known, at).is_some() && !known.is_parenthesised(at)
+}
+
+/// A shift with a relation as an operand that has no parentheses: `X >> 2 > 4` or `A = 1 << 2`.
+pub fn check_shifted_relation(known: &Known<'_, '_>, at: usize) -> Option<Found> {
+    let (first, second) = known.sides(at);
+    if is_bare_relation(known, second) {
+        let (left, right) = known.sides(second);
+        let found = Found::new(RELATION_AFTER_SHIFT, at).with(first, left);
+        return Some(found.and(right, second));
     }
-}
-
-/// Warns that a relation binds tighter than the shift of which it is an operand.
-fn say_tighter(
-    draft: &mut Draft,
-    known: &Known<'_, '_>,
-    at: usize,
-    shift: BinaryOp,
-    relation: BinaryOp,
-) {
-    known.begin(draft, at, at);
-    draft.say(
-        "{} binds tighter than {}: ",
-        &[Fill::Text(sign_of(relation)), Fill::Text(sign_of(shift))],
-    );
-}
-
-/// Warns of `X >> 2 > 4`, whose second operand is a relation. Returns whether it is one.
-fn warns_of_relation_after(
-    draft: &mut Draft,
-    known: &Known<'_, '_>,
-    at: usize,
-    sign: BinaryOp,
-) -> bool {
-    let tree = known.tree;
-    let operand = tree.second(at);
-    let Some(relation) = bare_relation(known, operand) else {
-        return false;
-    };
-    let parts = [
-        known.shown(tree.first(at)),
-        Fill::Text(sign_of(sign)),
-        known.shown(tree.first(operand)),
-        Fill::Text(sign_of(relation)),
-        known.shown(tree.second(operand)),
-    ];
-    say_tighter(draft, known, at, sign, relation);
-    draft.say("this is {} {} ({} {} {})", &parts);
-    draft.help("write ({} {} {}) {} {}", &parts);
-    true
-}
-
-/// Warns of `A = 1 << 2`, whose first operand is a relation. Returns whether it is one.
-fn warns_of_relation_before(
-    draft: &mut Draft,
-    known: &Known<'_, '_>,
-    at: usize,
-    sign: BinaryOp,
-) -> bool {
-    let tree = known.tree;
-    let operand = tree.first(at);
-    let Some(relation) = bare_relation(known, operand) else {
-        return false;
-    };
-    let parts = [
-        known.shown(tree.first(operand)),
-        Fill::Text(sign_of(relation)),
-        known.shown(tree.second(operand)),
-        Fill::Text(sign_of(sign)),
-        known.shown(tree.second(at)),
-    ];
-    say_tighter(draft, known, at, sign, relation);
-    draft.say("this is ({} {} {}) {} {}", &parts);
-    draft.help("write {} {} ({} {} {})", &parts);
-    true
-}
-
-/// Warns of a shift with a relation as an operand, if that has no parentheses. Returns whether it does.
-pub fn warns_of_shifted_relation(
-    draft: &mut Draft,
-    known: &Known<'_, '_>,
-    at: usize,
-    sign: BinaryOp,
-) -> bool {
-    warns_of_relation_after(draft, known, at, sign)
-        || warns_of_relation_before(draft, known, at, sign)
+    if is_bare_relation(known, first) {
+        let (left, right) = known.sides(first);
+        let found = Found::new(RELATION_BEFORE_SHIFT, at).with(left, right);
+        return Some(found.and(second, first));
+    }
+    None
 }
 
 /// How far up in a sum a minus is looked for.
@@ -108,20 +44,19 @@ fn is_negated(known: &Known<'_, '_>, at: usize) -> bool {
     false
 }
 
-/// Warns if a node is a relation that is added or multiplied. Returns whether it is.
-fn warns_of_truth_at(draft: &mut Draft, known: &Known<'_, '_>, at: usize) -> bool {
-    if relation_at(known, at).is_none() || is_negated(known, at) {
-        return false;
-    }
-    let name = known.shown(at);
-    known.begin(draft, at, at);
-    draft.say("{} is -1 if it is true, and not 1", &[name]);
-    draft.help("to count 1, write ({} -> 1, 0)", &[name]);
-    true
+/// Whether a node is a relation whose value isn't negated.
+fn is_truth(known: &Known<'_, '_>, at: usize) -> bool {
+    relation_at(known, at).is_some() && !is_negated(known, at)
 }
 
-/// Warns of a sum or product with a relation as an operand. Returns whether it is one.
-pub fn warns_of_counted_truth(draft: &mut Draft, known: &Known<'_, '_>, at: usize) -> bool {
-    warns_of_truth_at(draft, known, known.tree.first(at))
-        || warns_of_truth_at(draft, known, known.tree.second(at))
+/// A sum or product with a relation as an operand.
+pub fn check_counted_truth(known: &Known<'_, '_>, at: usize) -> Option<Found> {
+    let (first, second) = known.sides(at);
+    if is_truth(known, first) {
+        Some(Found::new(COUNTED_TRUTH, first))
+    } else if is_truth(known, second) {
+        Some(Found::new(COUNTED_TRUTH, second))
+    } else {
+        None
+    }
 }

@@ -1,10 +1,10 @@
 //! Warnings on variables that are used in their own initial values, where they have no value yet.
 
+use crate::found::Found;
 use crate::known::Known;
 use bc_parse_tree::UnaryOp;
+use bcpl_catalogue::ids::{HIDDEN_BY_NEW, OWN_VALUE};
 use bcpl_index::{Declared, Form};
-use bcpl_messages::{Draft, Fill};
-use bcpl_places::Span;
 
 /// How far up in an expression a search goes.
 const HIGHEST: usize = 100;
@@ -23,18 +23,14 @@ fn is_computed_in(known: &Known<'_, '_>, definition: usize, at: usize) -> bool {
     false
 }
 
-/// The place of the name that a declaration hides, if there is one.
-fn hidden_place(known: &Known<'_, '_>, declared: &Declared) -> Option<Span> {
+/// The node of the declaration that this one hides, if there is one.
+fn hidden_node(known: &Known<'_, '_>, declared: &Declared) -> Option<usize> {
     let outer = known.kinds.names.get(declared.before?)?;
     if outer.end < declared.end {
-        return None;
+        None
+    } else {
+        Some(outer.node)
     }
-    let token = known.tree.leaf(outer.node)?;
-    Some(Span {
-        file: token.file,
-        start: token.start,
-        end: token.end,
-    })
 }
 
 /// The node in the initial value of the only variable of a definition that uses this variable, which has this index.
@@ -52,26 +48,13 @@ fn own_use(known: &Known<'_, '_>, definition: usize, index: usize) -> Option<usi
     None
 }
 
-/// Warns of a variable that is used in its own initial value. Returns whether the one of this definition is.
-pub fn warns_of_own_value(draft: &mut Draft, known: &Known<'_, '_>, definition: usize) -> bool {
-    let Some(index) = known.kinds.names.index_at(known.tree.first(definition)) else {
-        return false;
-    };
-    let Some(declared) = known.kinds.names.get(index) else {
-        return false;
-    };
-    let Some(at) = own_use(known, definition, index) else {
-        return false;
-    };
-    let name = Fill::Shown(known.tree.text(at));
-    known.begin(draft, at, at);
-    draft.say("this is the new {}, which has no value yet", &[name]);
-    if let Some(place) = hidden_place(known, declared) {
-        draft.note(place, "it hides the {} that is declared here", &[name]);
+/// A variable of a definition that is used in its own initial value.
+pub fn check_own_value(known: &Known<'_, '_>, definition: usize) -> Option<Found> {
+    let index = known.kinds.names.index_at(known.tree.first(definition))?;
+    let declared = known.kinds.names.get(index)?;
+    let at = own_use(known, definition, index)?;
+    match hidden_node(known, declared) {
+        Some(outer) => Some(Found::new(HIDDEN_BY_NEW, at).with(at, outer)),
+        None => Some(Found::new(OWN_VALUE, at)),
     }
-    draft.help(
-        "a variable is already in scope in its own initial value; give it another name",
-        &[],
-    );
-    true
 }

@@ -1,9 +1,10 @@
 //! Warnings on vectors that are written as strings, but have one character in each word.
 
+use crate::found::Found;
 use crate::known::Known;
 use bc_parse_tree::BinaryOp;
+use bcpl_catalogue::ids::UNPACKED_STRING;
 use bcpl_index::{Declared, Form, Kind, Sort};
-use bcpl_messages::{Draft, Fill};
 
 /// How many nodes after a vector's declaration are searched.
 const MOST: usize = 2000;
@@ -47,34 +48,18 @@ fn unpacked_cell(known: &Known<'_, '_>, declared: &Declared, index: usize) -> Op
     found
 }
 
-/// Warns of a call of WRITES whose vector has one character in a word. Returns whether it is one.
-pub fn warns_of_unpacked(draft: &mut Draft, known: &Known<'_, '_>, at: usize) -> bool {
+/// A call of WRITES whose vector has one character in a word.
+pub fn check_unpacked(known: &Known<'_, '_>, at: usize) -> Option<Found> {
     let tree = known.tree;
     let vector = tree.second(at);
     if tree.text(tree.first(at)) != b"WRITES".as_slice() || vector >= tree.end(at) {
-        return false;
+        return None;
     }
-    let Some(index) = known.kinds.names.index_at(vector) else {
-        return false;
-    };
-    let Some(declared) = known.kinds.names.get(index) else {
-        return false;
-    };
+    let index = known.kinds.names.index_at(vector)?;
+    let declared = known.kinds.names.get(index)?;
     if declared.sort != Sort::Vector {
-        return false;
+        return None;
     }
-    let Some(cell) = unpacked_cell(known, declared, index) else {
-        return false;
-    };
-    let name = Fill::Shown(tree.text(declared.node));
-    known.begin(draft, cell, cell);
-    draft.say(
-        "this puts one character into a word of {}, but a string has two in each word",
-        &[name],
-    );
-    draft.help(
-        "PUTBYTE({}, I, 'A') sets character I, and PUTBYTE({}, 0, N) the length; set the words to 0 before",
-        &[name, name],
-    );
-    true
+    let cell = unpacked_cell(known, declared, index)?;
+    Some(Found::new(UNPACKED_STRING, cell).of(declared.node))
 }

@@ -1,11 +1,11 @@
 //! Warnings on the address of a vector's variable that is passed where its cells are used, and on a variable that is called
 //! because it hides a routine.
 
+use crate::found::Found;
 use crate::known::Known;
 use bc_parse_tree::{BinaryOp, UnaryOp};
+use bcpl_catalogue::ids::{CALLED_VARIABLE, PASSED_ADDRESS};
 use bcpl_index::{Declared, Form, Sort};
-use bcpl_messages::Draft;
-use bcpl_places::Span;
 
 /// The vector whose variable's address an argument is.
 fn addressed_vector(known: &Known<'_, '_>, at: usize) -> Option<usize> {
@@ -61,25 +61,14 @@ fn wrongly_passed(known: &Known<'_, '_>, at: usize, routine: usize) -> Option<us
     None
 }
 
-/// Warns of `@V` for a parameter that is used as a vector. Returns whether a call passes one.
-pub fn warns_of_passed_address(draft: &mut Draft, known: &Known<'_, '_>, at: usize) -> bool {
-    let Some(declared) = known.kinds.names.at(known.tree.first(at)) else {
-        return false;
-    };
+/// `@V` for a parameter that is used as a vector.
+pub fn check_passed_address(known: &Known<'_, '_>, at: usize) -> Option<Found> {
+    let declared = known.kinds.names.at(known.tree.first(at))?;
     if declared.sort != Sort::Routine || declared.is_assigned {
-        return false;
+        return None;
     }
-    let Some(vector) = wrongly_passed(known, at, declared.node) else {
-        return false;
-    };
-    let name = known.shown(vector);
-    known.begin(draft, vector, vector);
-    draft.say(
-        "this passes the address of the variable {}, not that of its cells",
-        &[name],
-    );
-    draft.help("{} is an address already: leave out the @", &[name]);
-    true
+    let vector = wrongly_passed(known, at, declared.node)?;
+    Some(Found::new(PASSED_ADDRESS, vector))
 }
 
 /// Whether a declaration is of a variable that begins as a number, and hides a routine of the same name.
@@ -98,30 +87,12 @@ fn hides_routine(known: &Known<'_, '_>, declared: &Declared) -> bool {
         && !declared.is_addressed
 }
 
-/// Warns of a call of a variable that hides a routine. Returns whether it is one.
-pub fn warns_of_called_variable(draft: &mut Draft, known: &Known<'_, '_>, at: usize) -> bool {
-    let tree = known.tree;
-    let called = tree.first(at);
-    let Some(declared) = known.kinds.names.at(called) else {
-        return false;
-    };
-    if !matches!(tree.form(called), Form::Name) || !hides_routine(known, declared) {
-        return false;
+/// A call of a variable that hides a routine.
+pub fn check_called_variable(known: &Known<'_, '_>, at: usize) -> Option<Found> {
+    let called = known.tree.first(at);
+    let declared = known.kinds.names.at(called)?;
+    if !matches!(known.form(called), Form::Name) || !hides_routine(known, declared) {
+        return None;
     }
-    let name = known.shown(called);
-    known.begin(draft, called, called);
-    draft.say(
-        "{} is a variable here, and hides the routine {}",
-        &[name, name],
-    );
-    if let Some(token) = tree.leaf(declared.node) {
-        let place = Span {
-            file: token.file,
-            start: token.start,
-            end: token.end,
-        };
-        draft.note(place, "the variable is declared here", &[]);
-    }
-    draft.help("give the variable another name", &[]);
-    true
+    Some(Found::new(CALLED_VARIABLE, called).with(called, declared.node))
 }

@@ -1,10 +1,11 @@
 //! Warnings on two relations of one variable that together are always true, or never.
 
 use crate::arithmetic::signed;
+use crate::found::Found;
 use crate::known::Known;
 use bc_parse_tree::BinaryOp;
+use bcpl_catalogue::ids::{MEETS_BOTH, MEETS_ONE};
 use bcpl_index::Form;
-use bcpl_messages::{Draft, Fill};
 
 /// What a relation of a variable to a number allows: the numbers from a limit on, or those up to one.
 #[derive(Clone, Copy)]
@@ -55,32 +56,16 @@ fn is_constant(one: &Bound, other: &Bound, is_or: bool) -> bool {
     }
 }
 
-/// Warns of `X < 5 & X > 10`, which is never true, and of `X > 5 | X < 10`, which always is. Returns whether it is one.
-pub fn warns_of_range(draft: &mut Draft, known: &Known<'_, '_>, at: usize, sign: BinaryOp) -> bool {
-    let (first, second) = (known.tree.first(at), known.tree.second(at));
-    let (Some(one), Some(other)) = (bound_at(known, first), bound_at(known, second)) else {
-        return false;
-    };
+/// `X < 5 & X > 10`, which is never true, and `X > 5 | X < 10`, which always is.
+pub fn check_range(known: &Known<'_, '_>, at: usize, sign: BinaryOp) -> Option<Found> {
+    let (first, second) = known.sides(at);
+    let one = bound_at(known, first)?;
+    let other = bound_at(known, second)?;
     let is_or = sign == BinaryOp::Or;
     if !is_constant(&one, &other, is_or) {
-        return false;
+        return None;
     }
-    known.begin(draft, at, at);
-    draft.say(
-        if is_or {
-            "this is always true: each {} meets one of the two"
-        } else {
-            "this is never true: no {} meets both"
-        },
-        &[known.shown(known.tree.first(first))],
-    );
-    draft.help(
-        "write {} {} {}",
-        &[
-            known.shown(first),
-            Fill::Text(if is_or { "&" } else { "|" }),
-            known.shown(second),
-        ],
-    );
-    true
+    let id = if is_or { MEETS_ONE } else { MEETS_BOTH };
+    let variable = known.tree.first(first);
+    Some(Found::new(id, at).with(first, second).and(variable, at))
 }

@@ -2,11 +2,12 @@
 //! character, and a choice that reads another character in each condition.
 
 use crate::enclosing::condition_of;
+use crate::found::Found;
 use crate::habits::{is_library_call, reads_character};
 use crate::known::Known;
 use bc_parse_tree::BinaryOp;
+use bcpl_catalogue::ids::{SECOND_READ, UNENDED_UNTIL, UNENDED_WHILE, WRITTEN_END};
 use bcpl_index::{Form, Tree};
-use bcpl_messages::Draft;
 
 /// The name of what RDCH returns at the end of the input.
 const END: &[u8] = b"ENDSTREAMCH";
@@ -27,10 +28,10 @@ fn ending_sign(is_until: bool) -> BinaryOp {
 
 /// Whether a node compares a variable with a character that is written out.
 fn is_character_test(known: &Known<'_, '_>, at: usize) -> bool {
-    let (left, right) = (known.tree.first(at), known.tree.second(at));
-    matches!(known.tree.form(left), Form::Name)
-        && known.kinds.kind(left).is_plain()
-        && matches!(known.tree.form(right), Form::Character(_))
+    let (left, right) = known.sides(at);
+    matches!(known.form(left), Form::Name)
+        && known.kind(left).is_plain()
+        && matches!(known.form(right), Form::Character(_))
 }
 
 /// Whether a node of a condition is one of those that wait for characters, and for nothing else.
@@ -102,51 +103,26 @@ fn has_read_item(known: &Known<'_, '_>, at: usize, index: usize) -> bool {
     false
 }
 
-/// Warns of a loop that reads until a certain character comes, and doesn't end at the end of the input. Returns whether it
-/// is one.
-fn warns_of_waiting(draft: &mut Draft, known: &Known<'_, '_>, at: usize) -> bool {
+/// A loop that reads until a certain character comes, and doesn't end at the end of the input.
+fn check_waiting(known: &Known<'_, '_>, at: usize) -> Option<Found> {
     let tree = known.tree;
-    let Some(condition) = condition_of(tree, at) else {
-        return false;
-    };
+    let condition = condition_of(tree, at)?;
     let is_until = is_until(tree, at);
-    let Some(variable) = waiting_variable(known, condition, is_until) else {
-        return false;
-    };
-    let Some(index) = known.kinds.names.index_at(variable) else {
-        return false;
-    };
+    let variable = waiting_variable(known, condition, is_until)?;
+    let index = known.kinds.names.index_at(variable)?;
     if known.flow.has_jump(tree, at)
         || known.kinds.names.has_finish
         || has_end(tree, at)
         || !has_read_item(known, at, index)
     {
-        return false;
+        return None;
     }
-    say_waiting(draft, known, condition, variable, is_until);
-    true
-}
-
-/// Warns of the condition of a loop that doesn't end at the end of the input.
-fn say_waiting(
-    draft: &mut Draft,
-    known: &Known<'_, '_>,
-    condition: usize,
-    variable: usize,
-    is_until: bool,
-) {
-    let name = known.shown(variable);
-    known.begin(draft, condition, condition);
-    draft.say(
-        "this loop doesn't end if the input ends: {} is ENDSTREAMCH then",
-        &[name],
-    );
-    let parts = [known.shown(condition), name];
-    if is_until {
-        draft.help("write {} | {} = ENDSTREAMCH", &parts);
+    let id = if is_until {
+        UNENDED_UNTIL
     } else {
-        draft.help("write {} & {} ~= ENDSTREAMCH", &parts);
-    }
+        UNENDED_WHILE
+    };
+    Some(Found::new(id, condition).of(variable))
 }
 
 /// The variable that a loop compares with ENDSTREAMCH, if that is all of its condition.
@@ -201,69 +177,50 @@ fn written_after_read(known: &Known<'_, '_>, block: usize, index: usize) -> Opti
     None
 }
 
-/// Warns of a loop whose last round writes ENDSTREAMCH. Returns whether it is one.
-fn warns_of_written_end(draft: &mut Draft, known: &Known<'_, '_>, at: usize) -> bool {
+/// A loop whose last round writes ENDSTREAMCH.
+fn check_written_end(known: &Known<'_, '_>, at: usize) -> Option<Found> {
     let tree = known.tree;
     let body = match tree.form(at) {
         Form::While | Form::Until => tree.second(at),
         _ => tree.first(at),
     };
-    let Some(index) = ended_variable(known, at) else {
-        return false;
-    };
-    let Some(argument) = written_after_read(known, body, index) else {
-        return false;
-    };
+    let index = ended_variable(known, at)?;
+    let argument = written_after_read(known, body, index)?;
     if known.flow.has_jump(tree, at) {
-        return false;
+        return None;
     }
-    let name = known.shown(argument);
-    known.begin(draft, argument, argument);
-    draft.say(
-        "{} is ENDSTREAMCH in the last round, and no character",
-        &[name],
-    );
-    draft.help(
-        "read before the loop, as in {} := RDCH(), and again as the last command of its body",
-        &[name],
-    );
-    true
+    Some(Found::new(WRITTEN_END, argument))
 }
 
-/// Warns of a loop that reads and doesn't heed the end of the input. Returns whether it is one.
-pub fn warns_of_end_of_input(draft: &mut Draft, known: &Known<'_, '_>, at: usize) -> bool {
-    reads_character(known, at)
-        && (warns_of_waiting(draft, known, at) || warns_of_written_end(draft, known, at))
+/// A loop that reads and doesn't heed the end of the input.
+pub fn check_end_of_input(known: &Known<'_, '_>, at: usize) -> Option<Found> {
+    if !reads_character(known, at) {
+        return None;
+    }
+    if let Some(found) = check_waiting(known, at) {
+        return Some(found);
+    }
+    check_written_end(known, at)
 }
 
 /// Whether a node compares a character that it reads with one that is written out.
 fn is_reading_test(known: &Known<'_, '_>, at: usize) -> bool {
-    let (left, right) = (known.tree.first(at), known.tree.second(at));
-    matches!(known.tree.form(at), Form::Bin(BinaryOp::Equal))
-        && matches!(known.tree.form(left), Form::Call)
+    let (left, right) = known.sides(at);
+    matches!(known.form(at), Form::Bin(BinaryOp::Equal))
+        && matches!(known.form(left), Form::Call)
         && is_library_call(known, left, b"RDCH".as_slice())
-        && matches!(known.tree.form(right), Form::Character(_))
+        && matches!(known.form(right), Form::Character(_))
 }
 
-/// Warns of a TEST whose second block begins with another choice, if both conditions read a character. Returns whether
-/// they do.
-pub fn warns_of_second_read(draft: &mut Draft, known: &Known<'_, '_>, at: usize) -> bool {
+/// `TEST RDCH() = 'A' THEN .. ELSE IF RDCH() = 'B'`: each condition reads another character.
+pub fn check_second_read(known: &Known<'_, '_>, at: usize) -> Option<Found> {
     let tree = known.tree;
     let choice = tree.first(tree.first(tree.third(at)));
     let test = tree.first(choice);
     let is_choice = matches!(tree.form(choice), Form::Test | Form::If)
         && matches!(tree.form_of_parent(choice), Form::Item);
     if !is_choice || !is_reading_test(known, tree.first(at)) || !is_reading_test(known, test) {
-        return false;
+        return None;
     }
-    known.begin(draft, test, test);
-    draft.say(
-        "this reads another character: the one that was compared before is lost",
-        &[],
-    );
-    draft.help(
-        "read once, as in LET CH = RDCH(), and compare CH in each condition",
-        &[],
-    );
-    true
+    Some(Found::new(SECOND_READ, test))
 }

@@ -1,31 +1,22 @@
 //! Warnings on routines each call of which calls the same routine again.
 
+use crate::found::Found;
 use crate::known::Known;
+use bcpl_catalogue::ids::ENDLESS_RECURSION;
 use bcpl_index::Sort;
-use bcpl_messages::Draft;
 
-/// Warns of a call that its own routine makes whenever it is called. Returns whether it is one.
-pub fn warns_of_recursion(draft: &mut Draft, known: &Known<'_, '_>, at: usize) -> bool {
-    let tree = known.tree;
-    let called = tree.first(at);
-    let Some(declared) = known.kinds.names.at(called) else {
-        return false;
-    };
+/// A call that its own routine makes whenever it is called.
+pub fn check_recursion(known: &Known<'_, '_>, at: usize) -> Option<Found> {
+    let called = known.tree.first(at);
+    let declared = known.kinds.names.at(called)?;
     let routine = declared.node;
     if declared.sort != Sort::Routine
         || declared.is_assigned
         || known.kinds.names.has_finish
-        || !tree.contains(routine, at)
+        || !known.tree.contains(routine, at)
         || !known.is_in_each_round(routine, at)
     {
-        return false;
+        return None;
     }
-    let name = known.shown(called);
-    known.begin(draft, at, at);
-    draft.say("each call of {} calls {} again, without end", &[name, name]);
-    draft.help(
-        "test for the last case before this call, as in LET F(N) = N = 0 -> 0, N + F(N - 1)",
-        &[],
-    );
-    true
+    Some(Found::new(ENDLESS_RECURSION, at).of(called))
 }

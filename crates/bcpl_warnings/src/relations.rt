@@ -3,41 +3,34 @@
 //! taken for a truth value.
 
 use crate::calls::is_negative;
+use crate::found::Found;
 use crate::habits::is_library_call;
 use crate::known::Known;
 use bc_parse_tree::BinaryOp;
+use bcpl_catalogue::ids::{
+    DIFFERS_FROM_EACH, EQUAL_TO_ONE_OF, KEPT_BY_RELATION, MASKED_TRUTH, ODD_REMAINDER,
+    RETURNED_NUMBERS,
+};
 use bcpl_index::{Declared, Form, Sort, Tree};
-use bcpl_messages::{Draft, Fill};
 
-/// Warns of `(CH = RDCH()) ~= ENDSTREAMCH`. Returns whether it is one.
-fn warns_of_kept(draft: &mut Draft, known: &Known<'_, '_>, at: usize) -> bool {
-    let tree = known.tree;
-    let (left, right) = (tree.first(at), tree.second(at));
-    let (variable, value) = (tree.first(left), tree.second(left));
-    let is_end = match tree.form(right) {
+/// `(CH = RDCH()) ~= ENDSTREAMCH`.
+fn check_kept(known: &Known<'_, '_>, at: usize) -> Option<Found> {
+    let (left, right) = known.sides(at);
+    let (variable, value) = known.sides(left);
+    let is_end = match known.form(right) {
         Form::Character(_) => true,
-        Form::Name => tree.text(right) == b"ENDSTREAMCH".as_slice(),
+        Form::Name => known.tree.text(right) == b"ENDSTREAMCH".as_slice(),
         _ => false,
     };
     if !is_end
-        || !matches!(tree.form(left), Form::Bin(BinaryOp::Equal))
-        || !matches!(tree.form(variable), Form::Name)
-        || !matches!(tree.form(value), Form::Call)
+        || !matches!(known.form(left), Form::Bin(BinaryOp::Equal))
+        || !matches!(known.form(variable), Form::Name)
+        || !matches!(known.form(value), Form::Call)
         || !is_library_call(known, value, b"RDCH".as_slice())
     {
-        return false;
+        return None;
     }
-    let name = known.shown(variable);
-    known.begin(draft, left, left);
-    draft.say(
-        "this compares {} with the character that is read, and assigns nothing",
-        &[name],
-    );
-    draft.help(
-        "write {} := RDCH() as a command: before the loop, and at the end of its body",
-        &[name],
-    );
-    true
+    Some(Found::new(KEPT_BY_RELATION, left).of(variable))
 }
 
 /// The first two characters among two or more that `|` joins.
@@ -56,33 +49,16 @@ fn joined_characters(tree: &Tree<'_>, at: usize) -> Option<(usize, usize)> {
     Some((first?, second?))
 }
 
-/// Warns of `CH = ('a' | 'e')`. Returns whether it is one.
-fn warns_of_joined(draft: &mut Draft, known: &Known<'_, '_>, at: usize, sign: BinaryOp) -> bool {
-    let (left, right) = (known.tree.first(at), known.tree.second(at));
-    let Some((first, second)) = joined_characters(known.tree, right) else {
-        return false;
+/// `CH = ('a' | 'e')`.
+fn check_characters(known: &Known<'_, '_>, at: usize, sign: BinaryOp) -> Option<Found> {
+    let (left, right) = known.sides(at);
+    let (first, second) = joined_characters(known.tree, right)?;
+    let id = if sign == BinaryOp::Equal {
+        EQUAL_TO_ONE_OF
+    } else {
+        DIFFERS_FROM_EACH
     };
-    let is_equal = sign == BinaryOp::Equal;
-    let name = known.shown(left);
-    let relation = Fill::Text(if is_equal { "=" } else { "~=" });
-    known.begin(draft, right, right);
-    draft.say(
-        "{} is one number, and not one character or the other",
-        &[known.shown(right)],
-    );
-    draft.help(
-        "compare with each: {} {} {} {} {} {} {}",
-        &[
-            name,
-            relation,
-            known.shown(first),
-            Fill::Text(if is_equal { "|" } else { "&" }),
-            name,
-            relation,
-            known.shown(second),
-        ],
-    );
-    true
+    Some(Found::new(id, right).with(left, first).and(second, right))
 }
 
 /// Whether a node is a number, or the name of a constant, other than -1.
@@ -93,20 +69,17 @@ fn is_mask(known: &Known<'_, '_>, at: usize) -> bool {
     }
 }
 
-/// Warns of `(X & 4) = TRUE`. Returns whether it is one.
-fn warns_of_mask(draft: &mut Draft, known: &Known<'_, '_>, at: usize) -> bool {
-    let tree = known.tree;
-    let (left, right) = (tree.first(at), tree.second(at));
-    let is_masked = matches!(tree.form(left), Form::Bin(BinaryOp::And))
-        && (is_mask(known, tree.first(left)) || is_mask(known, tree.second(left)));
-    if !is_masked || !matches!(tree.form(right), Form::True) {
-        return false;
+/// `(X & 4) = TRUE`.
+fn check_mask(known: &Known<'_, '_>, at: usize) -> Option<Found> {
+    let (left, right) = known.sides(at);
+    let (first, second) = known.sides(left);
+    if !matches!(known.form(left), Form::Bin(BinaryOp::And))
+        || !matches!(known.form(right), Form::True)
+        || !is_mask(known, first) && !is_mask(known, second)
+    {
+        return None;
     }
-    let name = known.shown(left);
-    known.begin(draft, at, at);
-    draft.say("{} is never TRUE, which is -1 and has all bits", &[name]);
-    draft.help("write ({}) ~= 0", &[name]);
-    true
+    Some(Found::new(MASKED_TRUTH, at).of(left))
 }
 
 /// Whether a node is a number other than -1 that is written out.
@@ -154,30 +127,21 @@ fn returns_numbers(known: &Known<'_, '_>, function: usize) -> bool {
     }
 }
 
-/// Warns of `F(X) = TRUE`, where F returns 1 or 0. Returns whether it is one.
-fn warns_of_returned(draft: &mut Draft, known: &Known<'_, '_>, at: usize) -> bool {
-    let tree = known.tree;
-    let (left, right) = (tree.first(at), tree.second(at));
-    let called = tree.first(left);
-    let Some(declared) = known.kinds.names.at(called) else {
-        return false;
-    };
-    if !matches!(tree.form(right), Form::True)
-        || !matches!(tree.form(left), Form::Call)
+/// `F(X) = TRUE`, where F returns 1 or 0.
+fn check_returned(known: &Known<'_, '_>, at: usize) -> Option<Found> {
+    let (left, right) = known.sides(at);
+    let called = known.tree.first(left);
+    let declared = known.kinds.names.at(called)?;
+    if !matches!(known.form(right), Form::True)
+        || !matches!(known.form(left), Form::Call)
         || declared.sort != Sort::Routine
         || declared.is_assigned
-        || !matches!(tree.form(declared.node), Form::Function)
+        || !matches!(known.form(declared.node), Form::Function)
         || !returns_numbers(known, declared.node)
     {
-        return false;
+        return None;
     }
-    known.begin(draft, at, at);
-    draft.say(
-        "{} never returns TRUE, which is -1: it returns other numbers",
-        &[known.shown(called)],
-    );
-    draft.help("use TRUE and FALSE for truth values", &[]);
-    true
+    Some(Found::new(RETURNED_NUMBERS, at).of(called))
 }
 
 /// Whether a variable's first value may be a negative number: one that is written out, or one that is read and that
@@ -229,46 +193,33 @@ fn may_be_negative(known: &Known<'_, '_>, at: usize) -> bool {
     }
 }
 
-/// Whether a node has this value.
-fn has_value(known: &Known<'_, '_>, at: usize, value: u16) -> bool {
-    matches!(known.kinds.value(at), Some(word) if word.get() == value)
-}
-
-/// Warns of `X REM 2 = 1`, if X is negative at times. Returns whether it is one.
-fn warns_of_odd(draft: &mut Draft, known: &Known<'_, '_>, at: usize) -> bool {
-    let tree = known.tree;
-    let (left, right) = (tree.first(at), tree.second(at));
-    let dividend = tree.first(left);
-    if !matches!(tree.form(left), Form::Bin(BinaryOp::Remainder))
-        || !has_value(known, tree.second(left), 2)
-        || !has_value(known, right, 1)
+/// `X REM 2 = 1`, if X is negative at times.
+fn check_odd(known: &Known<'_, '_>, at: usize) -> Option<Found> {
+    let (left, right) = known.sides(at);
+    let (dividend, divisor) = known.sides(left);
+    if !matches!(known.form(left), Form::Bin(BinaryOp::Remainder))
+        || !known.has_value(divisor, 2)
+        || !known.has_value(right, 1)
         || !may_be_negative(known, dividend)
     {
-        return false;
+        return None;
     }
-    let name = known.shown(dividend);
-    known.begin(draft, at, at);
-    draft.say(
-        "{} is -1, and not 1, if {} is negative and odd",
-        &[known.shown(left), name],
-    );
-    draft.help(
-        "write ({} & 1) = 1, which is true for all odd numbers",
-        &[name],
-    );
-    true
+    Some(Found::new(ODD_REMAINDER, at).with(left, dividend))
 }
 
-/// Warns of a relation whose sign is `=` or `~=`. Returns whether it does.
-pub fn warns_of_equality(
-    draft: &mut Draft,
-    known: &Known<'_, '_>,
-    at: usize,
-    sign: BinaryOp,
-) -> bool {
-    warns_of_kept(draft, known, at)
-        || warns_of_joined(draft, known, at, sign)
-        || warns_of_mask(draft, known, at)
-        || warns_of_returned(draft, known, at)
-        || warns_of_odd(draft, known, at)
+/// A relation whose sign is `=` or `~=`.
+pub fn check_equality(known: &Known<'_, '_>, at: usize, sign: BinaryOp) -> Option<Found> {
+    if let Some(found) = check_kept(known, at) {
+        return Some(found);
+    }
+    if let Some(found) = check_characters(known, at, sign) {
+        return Some(found);
+    }
+    if let Some(found) = check_mask(known, at) {
+        return Some(found);
+    }
+    if let Some(found) = check_returned(known, at) {
+        return Some(found);
+    }
+    check_odd(known, at)
 }

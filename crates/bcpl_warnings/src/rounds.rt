@@ -1,9 +1,10 @@
 //! Warnings on loops that have one round at most.
 
 use crate::finishing::last_command;
+use crate::found::Found;
 use crate::known::Known;
+use bcpl_catalogue::ids::SINGLE_ROUND;
 use bcpl_index::{Form, Tree};
-use bcpl_messages::Draft;
 
 /// The block of a FOR, WHILE or UNTIL.
 fn body_of(tree: &Tree<'_>, at: usize) -> usize {
@@ -48,28 +49,19 @@ fn has_way_round(tree: &Tree<'_>, at: usize) -> bool {
     false
 }
 
-/// Warns of a FOR, WHILE or UNTIL whose body always leaves it. Returns whether it does.
-pub fn warns_of_one_round(draft: &mut Draft, known: &Known<'_, '_>, at: usize) -> bool {
+/// A FOR, WHILE or UNTIL whose body always leaves it.
+pub fn check_one_round(known: &Known<'_, '_>, at: usize) -> Option<Found> {
     let tree = known.tree;
-    let body = body_of(tree, at);
+    let (first, body) = (tree.first(at), body_of(tree, at));
     // WHILE TRUE with a BREAK at its end is a block that can be left early
-    let is_block = matches!(tree.form(tree.first(at)), Form::True | Form::False);
+    let is_block = matches!(tree.form(first), Form::True | Form::False);
     if is_block || !always_leaves(tree, body) || has_way_round(tree, body) {
-        return false;
+        return None;
     }
     let last = if matches!(tree.form(at), Form::For) {
         tree.third(at)
     } else {
-        tree.first(at)
+        first
     };
-    known.begin(draft, tree.first(at), last);
-    draft.say(
-        "this loop has no second round: its body always leaves it",
-        &[],
-    );
-    draft.help(
-        "leave the loop under a condition only; what is for the end comes after the loop",
-        &[],
-    );
-    true
+    Some(Found::new(SINGLE_ROUND, first).to(last))
 }

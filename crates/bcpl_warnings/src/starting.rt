@@ -1,13 +1,14 @@
 //! Warnings on what is wrong from the start: a loop whose condition ends it before its first round, and parameters of START.
 
 use crate::arithmetic::signed;
+use crate::found::Found;
 use crate::hiding::is_read_from;
 use crate::kinds::{is_relation, value_of};
 use crate::known::Known;
 use bc_parse_tree::BinaryOp;
 use bc_word::Word;
+use bcpl_catalogue::ids::{FALSE_FROM_START, PASSED_LIMIT, START_PARAMETER, TRUE_FROM_START};
 use bcpl_index::{Form, Sort};
-use bcpl_messages::{Draft, Fill};
 
 /// How many nodes between a declaration and a loop are searched.
 const MOST: usize = 2000;
@@ -72,31 +73,19 @@ fn first_condition(known: &Known<'_, '_>, at: usize) -> Option<bool> {
     Some(value.get() != 0)
 }
 
-/// Warns of a WHILE or UNTIL that has no round. Returns whether it is one.
-pub fn warns_of_no_round(draft: &mut Draft, known: &Known<'_, '_>, at: usize) -> bool {
-    let is_until = matches!(known.tree.form(at), Form::Until);
-    match first_condition(known, at) {
-        Some(is_true) if is_true == is_until => {}
-        _ => return false,
+/// A WHILE or UNTIL that has no round.
+pub fn check_no_round(known: &Known<'_, '_>, at: usize) -> Option<Found> {
+    let is_until = matches!(known.form(at), Form::Until);
+    let is_true = first_condition(known, at)?;
+    if is_true != is_until {
+        return None;
     }
-    let condition = known.tree.first(at);
-    known.begin(draft, condition, condition);
-    if is_until {
-        draft.say(
-            "this loop does nothing: {} is true from the start",
-            &[known.shown(condition)],
-        );
+    let id = if is_until {
+        TRUE_FROM_START
     } else {
-        draft.say(
-            "this loop does nothing: {} is false from the start",
-            &[known.shown(condition)],
-        );
-    }
-    draft.help(
-        "WHILE goes on while its condition is true, and UNTIL while it is false",
-        &[],
-    );
-    true
+        FALSE_FROM_START
+    };
+    Some(Found::new(id, known.tree.first(at)))
 }
 
 /// The step of the only assignment in a loop to the variable with this index, if that adds a number to it.
@@ -163,28 +152,16 @@ fn passing_step(known: &Known<'_, '_>, at: usize) -> Option<u16> {
     }
 }
 
-/// Warns of a loop that ends at a value which its variable steps over. Returns whether it is one.
-pub fn warns_of_passing(draft: &mut Draft, known: &Known<'_, '_>, at: usize) -> bool {
-    let tree = known.tree;
-    let condition = tree.first(at);
-    let Some(step) = passing_step(known, at) else {
-        return false;
-    };
-    if known.flow.has_jump(tree, at) {
-        return false;
+/// A loop that ends at a value which its variable steps over.
+pub fn check_passing(known: &Known<'_, '_>, at: usize) -> Option<Found> {
+    let step = passing_step(known, at)?;
+    if known.flow.has_jump(known.tree, at) {
+        return None;
     }
-    let name = known.shown(tree.first(condition));
-    let value = known.shown(tree.second(condition));
-    known.begin(draft, condition, condition);
-    draft.say(
-        "{} steps over {}: it grows by {} in each round",
-        &[name, value, Fill::Number(u64::from(step))],
-    );
-    draft.help(
-        "write UNTIL {} >= {}, or WHILE {} < {}",
-        &[name, value, name, value],
-    );
-    true
+    let condition = known.tree.first(at);
+    let (left, right) = known.sides(condition);
+    let found = Found::new(PASSED_LIMIT, condition).with(left, right);
+    Some(found.counting(u64::from(step), 0))
 }
 
 /// Whether the section calls the routine with this index.
@@ -213,33 +190,23 @@ fn read_parameter(known: &Known<'_, '_>, at: usize) -> Option<usize> {
     None
 }
 
-/// Warns of a parameter of START that is read. Returns whether there is one.
-pub fn warns_of_start(draft: &mut Draft, known: &Known<'_, '_>, at: usize) -> bool {
-    let Some(index) = known.kinds.names.index_at(at) else {
-        return false;
-    };
-    let is_start = match known.kinds.names.get(index) {
+/// Whether the routine `at`, which has this index, is the START of the program.
+fn is_start(known: &Known<'_, '_>, at: usize, index: usize) -> bool {
+    match known.kinds.names.get(index) {
         Some(declared) => declared.sets_global && known.tree.text(at) == b"START".as_slice(),
         None => false,
-    };
-    if !is_start {
-        return false;
     }
-    let Some(parameter) = read_parameter(known, at) else {
-        return false;
-    };
+}
+
+/// A parameter of START that is read.
+pub fn check_start(known: &Known<'_, '_>, at: usize) -> Option<Found> {
+    let index = known.kinds.names.index_at(at)?;
+    if !is_start(known, at, index) {
+        return None;
+    }
+    let parameter = read_parameter(known, at)?;
     if is_called(known, index) {
-        return false;
+        return None;
     }
-    let name = Fill::Shown(known.tree.text(parameter));
-    known.begin(draft, parameter, parameter);
-    draft.say(
-        "a run passes no arguments to START, so {} has no value",
-        &[name],
-    );
-    draft.help(
-        "declare it as LET START() BE ..; a program reads its input with RDCH, or READN of EXTHDR",
-        &[],
-    );
-    true
+    Some(Found::new(START_PARAMETER, parameter))
 }

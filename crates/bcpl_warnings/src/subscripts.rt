@@ -1,12 +1,16 @@
 //! Warnings on subscripts outside of a vector, words of strings, zero divisors, and shifts by 16 or more.
 
-use crate::calls::say_signed;
+use crate::found::Found;
 use crate::known::Known;
 use crate::loops::{counting_of, is_read_once};
 use bc_parse_tree::BinaryOp;
 use bc_word::Word;
+use bcpl_catalogue::ids::{
+    ADDRESS_OF_ADDRESS, BEYOND_CELL, BEYOND_CELLS, BYTE_OF_STRING, CHARACTER_AS_DIGIT,
+    COUNTED_BEYOND_CELL, COUNTED_BEYOND_CELLS, DIVISION_BY_ZERO, INDEXED_NUMBER, INDEXED_STATIC,
+    LARGE_SHIFT, START_OF_STRING,
+};
 use bcpl_index::{Declared, Fact, Form, Kind, Sort, Tree};
-use bcpl_messages::{Draft, Fill};
 
 /// A subscript that is outside, and whether it is the last or first one of a FOR.
 #[derive(Clone, Copy)]
@@ -66,58 +70,23 @@ fn outside_at(known: &Known<'_, '_>, at: usize, greatest: u16) -> Option<Outside
     }
 }
 
-/// Warns of a subscript that is a character that was read, if the code of no digit is a subscript. Returns whether it is.
-fn warns_of_digit_subscript(
-    draft: &mut Draft,
-    known: &Known<'_, '_>,
-    at: usize,
-    greatest: u16,
-) -> bool {
-    if greatest >= u16::from(b'0') || !is_read_once(known, at) {
-        return false;
+/// A subscript outside of a vector or table, or one that is a character that was read, if the code of no digit is one.
+fn check_subscript(known: &Known<'_, '_>, at: usize, vector: &Fact) -> Option<Found> {
+    let greatest = vector.greatest()?;
+    let (name, subscript) = known.sides(at);
+    if greatest < u16::from(b'0') && is_read_once(known, subscript) {
+        return Some(Found::new(CHARACTER_AS_DIGIT, subscript));
     }
-    let name = known.shown(at);
-    known.begin(draft, at, at);
-    draft.say(
-        "{} is a character, whose code isn't the digit that it shows",
-        &[name],
-    );
-    draft.help("the number that a digit shows is {} - '0'", &[name]);
-    true
-}
-
-/// Warns of a subscript outside of a vector or table. Returns whether it is.
-fn warns_of_subscript(draft: &mut Draft, known: &Known<'_, '_>, at: usize, vector: &Fact) -> bool {
-    let tree = known.tree;
-    let Some(greatest) = vector.greatest() else {
-        return false;
+    let outside = outside_at(known, subscript, greatest)?;
+    let id = match (outside.is_counted, greatest) {
+        (true, 0) => COUNTED_BEYOND_CELL,
+        (true, _) => COUNTED_BEYOND_CELLS,
+        (false, 0) => BEYOND_CELL,
+        (false, _) => BEYOND_CELLS,
     };
-    if warns_of_digit_subscript(draft, known, tree.second(at), greatest) {
-        return true;
-    }
-    let Some(found) = outside_at(known, tree.second(at), greatest) else {
-        return false;
-    };
-    known.begin(draft, at, at);
-    let name = known.shown(tree.first(at));
-    if found.is_counted {
-        draft.say("{} comes to ", &[known.shown(tree.second(at))]);
-        say_signed(draft, found.number);
-        draft.say(" here, but ", &[]);
-    }
-    draft.say(
-        if greatest == 0 {
-            "{} has only the cell 0"
-        } else {
-            "{} has only the cells 0 to {}"
-        },
-        &[name, Fill::Number(u64::from(greatest))],
-    );
-    draft.help(
-        "VEC N has the cells 0 to N; what is after them belongs to other variables",
-        &[],
-    );
-    true
+    let number = u64::from(outside.number.get());
+    let found = Found::new(id, at).with(name, subscript);
+    Some(found.counting(u64::from(greatest), number))
 }
 
 /// Whether a node is assigned to a cell, so that a whole word is copied.
@@ -128,37 +97,23 @@ fn is_copied(tree: &Tree<'_>, at: usize) -> bool {
         && matches!(tree.form(place), Form::Bin(BinaryOp::Index))
 }
 
-/// Warns of a word of a string that is taken for a character. Returns whether it is.
-fn warns_of_string(draft: &mut Draft, known: &Known<'_, '_>, at: usize) -> bool {
-    let tree = known.tree;
-    let is_plain = matches!(tree.form(tree.second(at)), Form::Number(_) | Form::Name);
+/// A word of a string that is taken for a character.
+fn check_word(known: &Known<'_, '_>, at: usize) -> Option<Found> {
+    let (string, subscript) = known.sides(at);
+    let is_plain = matches!(known.form(subscript), Form::Number(_) | Form::Name);
     let is_unpacked = matches!(
-        tree.form_of_parent(at),
+        known.tree.form_of_parent(at),
         Form::Bin(BinaryOp::ShiftRight | BinaryOp::ShiftLeft | BinaryOp::And)
     );
-    if !is_plain || is_unpacked || is_copied(tree, at) {
-        return false;
+    if !is_plain || is_unpacked || is_copied(known.tree, at) {
+        return None;
     }
-    known.begin(draft, at, at);
-    draft.say(
-        "{} is a string, and a word of it holds two characters",
-        &[known.shown(tree.first(at))],
-    );
-    let string = known.shown(tree.first(at));
-    let number = known.shown(tree.second(at));
-    let is_first = matches!(known.kinds.value(tree.second(at)), Some(word) if word.get() == 0);
-    if is_first {
-        draft.help(
-            "the length of {} is GETBYTE({}, 0), and its first character GETBYTE({}, 1)",
-            &[string, string, string],
-        );
+    let id = if known.has_value(subscript, 0) {
+        START_OF_STRING
     } else {
-        draft.help(
-            "the character with the number {} is GETBYTE({}, {})",
-            &[number, string, number],
-        );
-    }
-    true
+        BYTE_OF_STRING
+    };
+    Some(Found::new(id, at).with(string, subscript))
 }
 
 /// Whether an assignment gives the variable with this index a number that is written out, or adds one to it.
@@ -198,35 +153,19 @@ fn is_count(known: &Known<'_, '_>, at: usize) -> bool {
     true
 }
 
-/// Warns of a number that is subscripted as if it were a vector. Returns whether it is one.
-fn warns_of_number(draft: &mut Draft, known: &Known<'_, '_>, at: usize) -> bool {
-    let tree = known.tree;
-    let vector = tree.first(at);
-    let (is_variable, is_static) = match (tree.form(vector), known.kinds.names.at(vector)) {
-        (Form::Name, Some(declared)) => (
-            declared.sort == Sort::Variable,
-            declared.sort == Sort::Static && !declared.is_assigned,
-        ),
-        _ => (false, false),
+/// A number that is subscripted as if it were a vector.
+fn check_number(known: &Known<'_, '_>, at: usize) -> Option<Found> {
+    let (vector, subscript) = known.sides(at);
+    let declared = known.kinds.names.at(vector)?;
+    let id = match declared.sort {
+        Sort::Variable => INDEXED_NUMBER,
+        Sort::Static if !declared.is_assigned => INDEXED_STATIC,
+        _ => return None,
     };
-    if !is_variable && !is_static || !is_count(known, tree.second(at)) {
-        return false;
+    if !matches!(known.form(vector), Form::Name) || !is_count(known, subscript) {
+        return None;
     }
-    let name = known.shown(vector);
-    known.begin(draft, at, at);
-    draft.say(
-        "{} is a number here, and not the address of a vector",
-        &[name],
-    );
-    if is_static {
-        draft.help(
-            "declare a vector in START, as in LET W = VEC 10, and assign {} := W",
-            &[name],
-        );
-    } else {
-        draft.help("a vector is declared as LET {} = VEC 10", &[name]);
-    }
-    true
+    Some(Found::new(id, at).of(vector))
 }
 
 /// Whether a declaration's value is the address of cells: a vector, or a variable that was given a table or string.
@@ -234,64 +173,42 @@ fn is_address(declared: &Declared) -> bool {
     declared.sort == Sort::Vector || matches!(declared.first.kind, Kind::Table | Kind::String)
 }
 
-/// Warns of a subscript of the address of a variable that is an address itself. Returns whether it is one.
-fn warns_of_address(draft: &mut Draft, known: &Known<'_, '_>, at: usize, fact: &Fact) -> bool {
-    let tree = known.tree;
-    let is_first = matches!(known.kinds.value(tree.second(at)), Some(word) if word.get() == 0);
-    let declared = match fact.declaration() {
-        Some(index) => known.kinds.names.get(index),
-        None => None,
-    };
-    let Some(declared) = declared else {
-        return false;
-    };
-    if is_first || !is_address(declared) {
-        return false;
+/// A subscript of the address of a variable that is an address itself.
+fn check_address(known: &Known<'_, '_>, at: usize, fact: &Fact) -> Option<Found> {
+    let (address, subscript) = known.sides(at);
+    let declared = known.kinds.names.get(fact.declaration()?)?;
+    if known.has_value(subscript, 0) || !is_address(declared) {
+        return None;
     }
-    let name = Fill::Shown(tree.text(declared.node));
-    known.begin(draft, at, at);
-    draft.say(
-        "{} is the address of the variable {}, not that of its cells",
-        &[known.shown(tree.first(at)), name],
-    );
-    draft.help("{} is an address already: leave out the @", &[name]);
-    true
+    Some(Found::new(ADDRESS_OF_ADDRESS, at).with(address, declared.node))
 }
 
-/// Warns of `!` between two operands. Returns whether it does.
-pub fn warns_of_index(draft: &mut Draft, known: &Known<'_, '_>, at: usize) -> bool {
+/// `!` between two operands.
+pub fn check_index(known: &Known<'_, '_>, at: usize) -> Option<Found> {
     let fact = known.kinds.fact(known.tree.first(at));
     match fact.kind {
-        Kind::Vector | Kind::Table => warns_of_subscript(draft, known, at, &fact),
-        Kind::String => warns_of_string(draft, known, at),
-        Kind::Number => warns_of_number(draft, known, at),
-        Kind::Local => warns_of_address(draft, known, at, &fact),
-        _ => false,
+        Kind::Vector | Kind::Table => check_subscript(known, at, &fact),
+        Kind::String => check_word(known, at),
+        Kind::Number => check_number(known, at),
+        Kind::Local => check_address(known, at, &fact),
+        _ => None,
     }
 }
 
-/// Warns of a zero divisor. Returns whether there is one.
-pub fn warns_of_divisor(draft: &mut Draft, known: &Known<'_, '_>, at: usize) -> bool {
+/// A zero divisor.
+pub fn check_divisor(known: &Known<'_, '_>, at: usize) -> Option<Found> {
     let divisor = known.tree.second(at);
-    let is_zero = matches!(known.kinds.value(divisor), Some(word) if word.get() == 0);
-    if !is_zero || !known.is_certain(divisor) {
-        return false;
+    if !known.has_value(divisor, 0) || !known.is_certain(divisor) {
+        return None;
     }
-    known.begin(draft, at, at);
-    draft.say("this divides by 0", &[]);
-    draft.help("a run that comes here ends", &[]);
-    true
+    Some(Found::new(DIVISION_BY_ZERO, at))
 }
 
-/// Warns of a shift by more than a word has bits. Returns whether it is one.
-pub fn warns_of_shift(draft: &mut Draft, known: &Known<'_, '_>, at: usize) -> bool {
+/// A shift by more than a word has bits.
+pub fn check_shift(known: &Known<'_, '_>, at: usize) -> Option<Found> {
     let places = known.tree.second(at);
-    let is_large = matches!(known.kinds.value(places), Some(word) if word.get() > 15);
-    if !is_large || !known.is_certain(places) {
-        return false;
+    if known.value(places)?.get() <= 15 || !known.is_certain(places) {
+        return None;
     }
-    known.begin(draft, at, at);
-    draft.say("a word has 16 bits, so this shift gives 0", &[]);
-    draft.help("shift by 0 to 15 places", &[]);
-    true
+    Some(Found::new(LARGE_SHIFT, at))
 }

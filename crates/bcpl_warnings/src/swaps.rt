@@ -1,8 +1,9 @@
 //! Warning: an exchange of two variables, of which only the first command depends on its condition.
 
+use crate::found::Found;
 use crate::known::Known;
+use bcpl_catalogue::ids::REST_OF_SWAP;
 use bcpl_index::Form;
-use bcpl_messages::Draft;
 
 /// The left and the right side of the item at a node, if it is an assignment of one value.
 fn sides_of(known: &Known<'_, '_>, item: usize) -> Option<(usize, usize)> {
@@ -45,16 +46,9 @@ fn rest_of_swap(known: &Known<'_, '_>, at: usize) -> Option<usize> {
     }
 }
 
-/// Warns of an IF that is followed by the rest of an exchange that its command begins. Returns whether it is.
-pub fn warns_of_swap(draft: &mut Draft, known: &Known<'_, '_>, at: usize) -> bool {
-    let Some(rest) = rest_of_swap(known, at) else {
-        return false;
-    };
-    known.begin(draft, rest, rest);
-    draft.say(
-        "this comes after the IF, not in it: {} is all that depends on its condition",
-        &[known.shown(known.tree.first(known.tree.first(known.tree.second(at))))],
-    );
-    draft.help("write a body of several commands as $( .. $)", &[]);
-    true
+/// An IF that is followed by the rest of an exchange that its command begins.
+pub fn check_swap(known: &Known<'_, '_>, at: usize) -> Option<Found> {
+    let tree = known.tree;
+    let rest = rest_of_swap(known, at)?;
+    Some(Found::new(REST_OF_SWAP, rest).of(tree.first(tree.first(tree.second(at)))))
 }

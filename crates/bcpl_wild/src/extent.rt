@@ -169,7 +169,7 @@ pub fn extent_from(tokens: &[Token<'_>], index: usize) -> Extent {
         is_assignment: false,
     };
     let mut last = index;
-    for (at, _) in tokens.iter().enumerate().skip(first) {
+    for at in first..tokens.len() {
         if at > index && walk.depth == 0 && ends_before(tokens, at) {
             break;
         }

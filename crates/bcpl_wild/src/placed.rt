@@ -8,7 +8,9 @@ use bc_lex::{Source, lex};
 use bc_lex_tokens::{Symbol, Token, TokenKind};
 use bc_machine_defs::Image;
 use bc_parse::parse;
-use bc_scope_places::{BodyOf, Sites, sites_of, token_at};
+use bc_parse_tree::is_leaf;
+use bc_scope_places::{BodyOf, Sites, sites_of};
+use bc_word::Memory;
 use bcpl_messages::{Draft, is_at, span_of};
 use bcpl_places::Span;
 use std::alloc::Global;
@@ -46,8 +48,21 @@ pub struct ReadMain<'s> {
     pub main: usize,
     /// Its tokens.
     pub tokens: Vec<Token<'s>>,
+    /// The index of the token of each leaf.
+    leaves: Vec<usize>,
     /// The places of its routines, variables and roots.
     pub sites: Sites,
+}
+
+/// The indexes of the tokens that are leaves.
+fn leaves_among(alloc: Global, tokens: &[Token<'_>]) -> Result<Vec<usize>, Memory> {
+    let mut leaves = Vec::new(alloc);
+    for (index, token) in tokens.iter().enumerate() {
+        if is_leaf(token.kind) {
+            leaves.push(index)?;
+        }
+    }
+    Ok(leaves)
 }
 
 /// The places among the tokens of a main; `None` if they are refused.
@@ -64,13 +79,17 @@ pub fn read<'s>(draft: &mut Draft, sources: &[Source<'s>], main: usize) -> Optio
     if main >= sources.len() {
         return None;
     }
-    let Ok(tokens) = lex(draft.alloc(), sources, main) else {
+    let alloc = draft.alloc();
+    let Ok(tokens) = lex(alloc, sources, main) else {
         return None;
     };
+    let leaves = leaves_among(alloc, tokens.as_slice());
+    let leaves = draft.found(leaves, Vec::new(alloc));
     match sites_among(draft, tokens.as_slice()) {
         Some(sites) => Some(ReadMain {
             main,
             tokens,
+            leaves,
             sites,
         }),
         None => None,
@@ -100,9 +119,15 @@ pub fn root_of(
 }
 
 impl<'s> ReadMain<'s> {
+    /// The index of the token of a leaf.
+    pub fn token_of(&self, leaf: u64) -> Option<usize> {
+        let leaf = usize::try_from(leaf).ok()?;
+        self.leaves.get(leaf).copied()
+    }
+
     /// The token of a leaf.
     fn token(&self, leaf: u64) -> Option<&Token<'s>> {
-        self.tokens.get(token_at(self.tokens.as_slice(), leaf)?)
+        self.tokens.get(self.token_of(leaf)?)
     }
 
     /// The text of the token of a leaf.
@@ -112,7 +137,7 @@ impl<'s> ReadMain<'s> {
 
     /// The span of a leaf.
     pub fn span(&self, sources: &[Source<'_>], leaf: u64) -> Option<Span> {
-        let index = token_at(self.tokens.as_slice(), leaf)?;
+        let index = self.token_of(leaf)?;
         Some(span_of(self.tokens.as_slice(), sources, self.main, index))
     }
 
@@ -128,8 +153,7 @@ impl<'s> ReadMain<'s> {
     /// The tokens of the root with this number.
     pub fn extent_of_root(&self, root: usize) -> Option<Extent> {
         let leaf = self.sites.roots.get(root)?.leaf;
-        let tokens = self.tokens.as_slice();
-        Some(extent_from(tokens, token_at(tokens, leaf)?))
+        Some(extent_from(self.tokens.as_slice(), self.token_of(leaf)?))
     }
 
     /// The span of these tokens; that of the first one if the last one is in another file.
@@ -156,18 +180,14 @@ impl<'s> ReadMain<'s> {
     /// Which parameter of the routine with this label the name at a leaf is; `None` if it isn't one.
     pub(crate) fn parameter(&self, label: u64, leaf: u64) -> Option<Parameter> {
         let tokens = self.tokens.as_slice();
-        let name = token_at(tokens, self.sites.label(label)?)?;
-        parameter_at(tokens, name, token_at(tokens, leaf)?)
+        let name = self.token_of(self.sites.label(label)?)?;
+        parameter_at(tokens, name, self.token_of(leaf)?)
     }
 
     /// Whether a label is a routine's: a parenthesis follows its name.
     pub fn is_routine(&self, label: u64) -> bool {
         let tokens = self.tokens.as_slice();
-        let Some(index) = self
-            .sites
-            .label(label)
-            .and_then(|leaf| token_at(tokens, leaf))
-        else {
+        let Some(index) = self.sites.label(label).and_then(|leaf| self.token_of(leaf)) else {
             return false;
         };
         let is_name = match tokens.get(index) {

@@ -1,6 +1,7 @@
 /* Preloaded into a program: the read whose number FAIL_READ gives fails, the write whose number FAIL_WRITE gives, and the renaming whose number
    FAIL_RENAME gives, counted from 1. With ONE_BYTE each read or write moves one byte a call. How many reads and writes there were is written to the file
-   that COUNT_CALLS names. KILL_CALL gives the number of a call, of those that change files, at which the program is killed; a write is half done then. */
+   that COUNT_CALLS names. Reads of the program's limits don't count, since it may do without; with FAIL_LIMITS they fail. KILL_CALL gives the number of
+   a call, of those that change files, at which the program is killed; a write is half done then. */
 #define _GNU_SOURCE
 #include <errno.h>
 #include <fcntl.h>
@@ -8,11 +9,13 @@
 #include <stdarg.h>
 #include <stdio.h>
 #include <stdlib.h>
+#include <string.h>
 #include <sys/syscall.h>
 #include <sys/types.h>
 #include <unistd.h>
 
 static long reads, writes, renames, changes;
+static int limits = -1; /* the open file with the limits */
 
 static long wanted(const char *name) {
     const char *number = getenv(name);
@@ -28,7 +31,7 @@ static void change(void) {
 static size_t moved(size_t count) { return count > 1 && getenv("ONE_BYTE") ? 1 : count; }
 
 ssize_t read(int file, void *bytes, size_t count) {
-    if (++reads == wanted("FAIL_READ")) {
+    if (file == limits ? wanted("FAIL_LIMITS") : ++reads == wanted("FAIL_READ")) {
         errno = EIO;
         return -1;
     }
@@ -49,14 +52,19 @@ ssize_t write(int file, const void *bytes, size_t count) {
 
 int open(const char *path, int flags, ...) {
     va_list rest;
-    int mode = 0;
+    int mode = 0, file;
     va_start(rest, flags);
     if (flags & O_CREAT) {
         mode = va_arg(rest, int);
         change();
     }
     va_end(rest);
-    return (int)syscall(SYS_open, path, flags, mode);
+    file = (int)syscall(SYS_open, path, flags, mode);
+    if (strcmp(path, "/proc/self/limits") == 0)
+        limits = file;
+    else if (file == limits)
+        limits = -1;
+    return file;
 }
 
 int mkdir(const char *path, mode_t mode) {
