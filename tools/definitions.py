@@ -1,222 +1,141 @@
-"""Reads the definitions of specs/ and the contracts of src/ as text: which definition names which.
+"""What names what among the definitions, types, views and contracts that tools/units.py reads, and how many lines that is.
 
-A definition after the line "Its type determines it: law `NAME`." counts with its type alone: what that law says leaves nothing else to know.
-It goes by names and knows no types. A name is followed to the import that brings it, or to the definition of the same file; a local variable
-with the name of a definition counts as that definition. So a count is never too low, and may be a little too high.
+A definition in DETERMINED counts with its type alone: what its law says leaves nothing else to know. The comment above it says so too; of
+any other definition that comment is refused. A name is followed to each definition or type that it can mean, also through a `pub use` and
+into the fields of a type. So a count is never too low, and may be a little too high.
 """
 import functools
-import glob
 import os
 import re
 
-TOP = os.path.join(os.path.dirname(os.path.abspath(__file__)), os.pardir)
-IMPORT = re.compile(r"^\s*(?:ghost )?(?:pub )?use Rattle\.(\w+)\.specs\.([\w.]+?)(?:\.\{(.*)\}| as (\S+?))?;?$")
-NAME = re.compile(r"[^\s(){}\[\],;:=.λ→×]+(?:\.[^\s(){}\[\],;:=.λ→×]+)*")
-HEAD = re.compile(r"^\s*(?:abbrev|unfoldable|mutual|pub|data|record)\b")
-DETERMINED = re.compile(r"^-- Its type determines it: law `(\w+)`\.$")
-DEFINED = re.compile(r"^\s*(?:(?:abbrev|unfoldable) )?(?:pub )?(?:data |record )?([^\s:(]+)\s*(?:\(.*)?:")
+from repository import TOP, crates as listed_crates
+from units import File, Unreadable, is_operator_in, is_ours, names_below, read, sources_of, tokens_in
 
-
-class NoDefinition(Exception):
-    """Nothing has the name that was asked for."""
+# The definitions of which only the type counts, each with the law of its crate by which any two of this type agree.
+DETERMINED = {
+    "bc_select_defs.LeastDerivation.least_of_root": "one_least_derivation",
+    "bc_select_defs.LeastDerivation.least_of_expression": "one_least_words",
+}
+DERIVED = re.compile(r"(?:Debug|Clone|Copy|Default|Hash|(?:Partial)?(?:Eq|Ord))$")
 
 
 @functools.lru_cache(None)
-def laws_of(crate):
-    """The names of a crate's laws."""
-    path = os.path.join(TOP, "crates", crate, "src", "laws.rt")
-    if not os.path.exists(path):
-        return set()
-    with open(path, encoding="utf-8") as file:
-        return set(re.findall(r"^pub fn (\w+)\(\)$", file.read(), re.MULTILINE))
-
-
-class Unit:
-    """One definition of a file, or one group of mutual definitions: its names and its lines."""
-
-    def __init__(self, crate, file, lines):
-        self.crate, self.file, self.lines = crate, file, lines
-        self.names = set()
-        for line in lines:
-            found = DEFINED.match(line)
-            if found and (HEAD.match(line) or line.startswith(" ")):
-                self.names.add(found[1])
-
-    def __len__(self):
-        return len(self.lines)
-
-
-class File:
-    """A file of specs/: its imports and its units. `is_for_proofs` as its first line says."""
-
-    def __init__(self, crate, name, text):
-        self.crate, self.name = crate, name
-        self.is_for_proofs = text.startswith("-- For proofs:")
-        self.imports, self.aliases, units = {}, {}, []
-        is_example_line, in_mutual, self.examples, by_type = False, False, 0, {}
-        for line in text.split("\n"):
-            if DETERMINED.match(line):
-                by_type[len(units)] = DETERMINED.match(line)[1]
-            is_example_line = is_example_line or line.startswith("-- ---- Worked examples")
-            if not line.strip() or line.lstrip().startswith("--"):
-                continue
-            if is_example_line:
-                self.examples += not line.startswith("use ")
-                continue
-            if read_import(line, self.imports, self.aliases):
-                continue
-            begins = not line.startswith(" ") and re.match(r"(abbrev|unfoldable|mutual|pub |data |record )", line)
-            # `abbrev mutual` and `mutual` open a group whose definitions are indented.
-            if begins or not units:
-                units.append([])
-                in_mutual = "mutual" in line.split()
-            if not (in_mutual and "mutual" in line.split() and len(line.split()) <= 2):
-                units[-1].append(line)
-        for at, law in by_type.items():
-            # What is known of such a definition is its type; the law says that nothing else matters.
-            units[at] = [line for line in units[at] if HEAD.match(line)]
-            if law not in laws_of(crate):
-                raise NoDefinition(f"{crate}.{name}: there is no law {law}")
-        self.units = [Unit(crate, name, lines) for lines in units if lines]
-        self.by_name = {name: unit for unit in self.units for name in unit.names}
-
-
-def read_import(line, imports, aliases):
-    """Notes what an import brings: names with the crate, file and name that they mean, and aliases of files. Returns whether the line is one."""
-    found = IMPORT.match(line)
-    if not found:
-        return bool(re.match(r"^\s*(?:ghost )?(?:pub )?use ", line))
-    crate, module, names, alias = found.groups()
-    if names is not None:
-        for item in names.split(","):
-            item = item.strip()
-            if item:
-                old, _, new = item.partition(" as ")
-                imports[new or old] = (crate, module, old)
-    elif alias:
-        aliases[alias] = (crate, module)
-    return True
+def crates():
+    """The crates, in the order of crates.txt."""
+    return tuple(listed_crates())
 
 
 @functools.lru_cache(None)
 def file_of(crate, name):
-    """The definitions file of this name, or None: a generated one, one of the standard library, or a folder."""
-    path = os.path.join(TOP, "crates", crate, "specs", *name.split(".")) + ".antt"
-    if not os.path.exists(path):
-        return None
-    with open(path, encoding="utf-8") as text:
-        return File(crate, name, text.read())
-
-
-def names_in(text):
-    """The names in a piece of text, with the parts of dotted ones joined by dots."""
-    return set(NAME.findall(re.sub(r"--.*|//.*|\"[^\"]*\"", "", text)))
-
-
-def find(name, imports, aliases, own):
-    """The unit that a name means, or None."""
-    head, _, rest = name.partition(".")
-    if head in aliases and rest:
-        file = file_of(*aliases[head])
-        return file.by_name.get(rest.split(".")[0]) if file else None
-    if head in imports:
-        crate, module, old = imports[head]
-        file = file_of(crate, module)
-        return file.by_name.get(old) if file else None
-    return own.get(head)
-
-
-def used_by(unit):
-    """The units that this one names, itself aside."""
-    file = file_of(unit.crate, unit.file)
-    found = {find(name, file.imports, file.aliases, file.by_name) for name in names_in("\n".join(unit.lines))}
-    return found - {None, unit}
-
-
-def all_below(units):
-    """These units and all that they rest on."""
-    reached, left = set(), list(units)
-    while left:
-        unit = left.pop()
-        if unit not in reached:
-            reached.add(unit)
-            left.extend(used_by(unit))
-    return reached
-
-
-CLAUSE = re.compile(r"^\s*(?:requires|ensures)\b")
-FUNCTION = re.compile(r"^\s*(?:pub(?:\(\w+\))? )?(?:const )?(?:unsafe )?fn (\w+)")
-
-
-IMPL = re.compile(r"^impl\b.*?([A-Z]\w*)(?:<[^{]*>)?\s*\{")
-
-
-class Contract:
-    """The contract of a function: its crate, file and name, the type whose method it is, whether it is public, and its clauses as text."""
-
-    def __init__(self, crate, file, name, owner, is_public):
-        self.crate, self.file, self.name, self.owner, self.is_public, self.clauses, self.units = crate, file, name, owner, is_public, [], set()
-
-    def is_exported(self):
-        """Whether other crates can call it: it is public, and the crate's root names it, its type or its file in a `pub`."""
-        return self.is_public and bool({self.owner or self.name, self.file.split("::")[0]} & exported_names(self.crate))
-
-
-@functools.lru_cache(None)
-def exported_names(crate):
-    """The names that a crate's root exports: those of each `pub use`, and each `pub mod`."""
-    for name in ("lib.rt", "main.rt"):
-        path = os.path.join(TOP, "crates", crate, "src", name)
-        if os.path.exists(path):
-            with open(path, encoding="utf-8") as file:
-                text = file.read()
-            uses = re.findall(r"^pub use ([^;]*);", text, re.MULTILINE)
-            own = re.findall(r"^pub (?:mod|fn|const fn|struct|enum) (\w+)", text, re.MULTILINE)
-            return {*own, *(word for use in uses for word in re.findall(r"\w+", use.partition("::")[2]))}
-    return set()
-
-
-def contracts_of(crate):
-    """The contracts of the functions of a crate, with the units that each names."""
-    for path in sorted(glob.glob(os.path.join(TOP, "crates", crate, "src", "**", "*.rt"), recursive=True)):
-        imports, aliases = {}, {}
-        with open(path, encoding="utf-8") as text:
-            lines = text.read().split("\n")
-        for line in lines:
-            read_import(line, imports, aliases)
-        file = os.path.relpath(path, os.path.join(TOP, "crates", crate, "src"))[:-3].replace(os.sep, "::")
-        current, taking, owner = None, False, ""
-        for line in lines:
-            begins = IMPL.match(line)
-            owner = begins[1] if begins else "" if line.startswith("}") else owner
-            found = FUNCTION.match(line)
-            if found:
-                is_public = line.lstrip().startswith(("pub fn", "pub const fn"))
-                current, taking = Contract(crate, file, found[1], owner, is_public), False
-                continue
-            if current is not None and line.strip() in ("{", "{}"):
-                if current.clauses:
-                    names = names_in("\n".join(current.clauses))
-                    current.units = {find(name, imports, aliases, {}) for name in names} - {None}
-                    yield current
-                current = None
-            elif current is not None and (taking or CLAUSE.match(line)):
-                taking = True
-                current.clauses.append(line)
-
-
-def crates():
-    """The crates, in the order of crates.txt."""
-    with open(os.path.join(TOP, "crates.txt"), encoding="utf-8") as lines:
-        return [line.split(":")[0].split()[0] for line in lines if ":" in line and not line.lstrip().startswith("#")]
+    """The definitions file of this name; None if it is a folder, generated, or not of this repository."""
+    path = os.path.join("crates", crate, "specs", *name.split(".")) + ".antt"
+    return File(crate, name, read(path), DETERMINED) if os.path.exists(os.path.join(TOP, path)) else None
 
 
 def files_of(crate):
     """The definition files of a crate."""
-    folder = os.path.join(TOP, "crates", crate, "specs")
-    paths = sorted(glob.glob(os.path.join(folder, "**", "*.antt"), recursive=True))
-    names = [os.path.relpath(path, folder)[:-5].replace(os.sep, ".") for path in paths]
-    return [file_of(crate, name) for name in names if name != "Lib"]
+    return [file_of(crate, name.replace("/", ".")) for name in names_below(crate, "specs", ".antt") if name != "Lib"]
+
+
+@functools.lru_cache(None)
+def contracts_of(crate):
+    """The contracts of the functions of a crate."""
+    return [contract for source in sources_of(crate) for contract in source.contracts]
+
+
+@functools.lru_cache(None)
+def types_named(crate, name):
+    """The types of this name that a crate has or passes on, each with its views."""
+    found, others = set(), set()
+    for source in sources_of(crate):
+        found |= {unit for unit in source.types if name in unit.names}
+        others |= {source.scope.rust[name]} if name in source.scope.rust else set()
+    for other, old in others:
+        found |= types_named(other, old) if other != crate else set()
+    return frozenset(found)
+
+
+def generated(crate, module, name):
+    """What a name means that the kit generates from src/: the type in its path, or the type for which something in its path is derived."""
+    for part in (*module.split(".")[1:], name):
+        found = types_named(crate, part) or types_named(crate, DERIVED.sub("", part))
+        if found:
+            return found
+    raise Unreadable(f"no type of crates/{crate}/src is {module}.{name}")
+
+
+@functools.lru_cache(None)
+def meant_by(crate, module, name):
+    """What a name of a module means: units, or names of the standard library, as sets; None if the module has no such name."""
+    if not is_ours(crate):
+        return frozenset(), frozenset({(crate, module, name)})
+    if module.split(".")[0] in ("declared", "contracts"):
+        return generated(crate, module, name), frozenset()
+    file = file_of(crate, module)
+    if file is None:
+        raise Unreadable(f"there is no file {module} in crates/{crate}/specs")
+    if name in file.scope.own:
+        return frozenset(file.scope.own[name]), frozenset()
+    return joined(meant_by(*target) for target in file.scope.imports[name]) if name in file.scope.imports else None
+
+
+def joined(meanings):
+    """The unions of some pairs of sets."""
+    pairs = list(meanings)
+    return frozenset().union(*(pair[0] for pair in pairs)), frozenset().union(*(pair[1] for pair in pairs))
+
+
+def used_in(scope, text):
+    """What a text of a file names: units, and names of the standard library with their modules. An operator's parts are names of the text."""
+    tokens = tokens_in(text)
+    heads = {token.partition(".")[0] for token in tokens}
+    if "Rattle" in heads:
+        raise scope.fault("a name with its whole path, which an import should bring")
+    named = [name for name in (*scope.imports, *scope.own) if name in heads or is_operator_in(name, tokens)]
+    found = [(frozenset(scope.own[name]), frozenset()) for name in named if name in scope.own]
+    for target in (target for name in named for target in scope.imports.get(name, ())):
+        found.append(meant_by(*target))
+        if found[-1] is None:
+            raise Unreadable(f"{target[0]}.{target[1]} has no definition {target[2]}")
+    for head, _, rest in (token.partition(".") for token in tokens):
+        # Where the module has no such name, it is a field of a variable.
+        found += filter(None, (meant_by(*alias, rest.split(".")[0]) for alias in scope.aliases.get(head, ()) if rest))
+    return joined(found)
+
+
+def types_in(scope, text):
+    """The types that a text of the code names, those of the standard library aside."""
+    words = set(re.findall(r"\w+", text))
+    found = [types_named(*scope.rust[word]) for word in words if word in scope.rust]
+    found += [{unit for unit in types_named(scope.crate, word) if unit.file == scope.file} for word in words]
+    return frozenset().union(*found)
+
+
+@functools.lru_cache(None)
+def used_by(unit):
+    """The units that this one names, and the names of the standard library."""
+    text = "\n".join(unit.lines)
+    units, library = used_in(unit.scope, text)
+    return units | (types_in(unit.scope, text) if unit.kind != "definition" else frozenset()), library
+
+
+def reached_from(units):
+    """These units and all that they rest on, and the names of the standard library among it."""
+    reached, library, left = set(), set(), list(units)
+    while left:
+        unit = left.pop()
+        if unit not in reached:
+            reached.add(unit)
+            more, names = used_by(unit)
+            library |= names
+            left.extend(more)
+    return reached, library
+
+
+def units_of_contract(contract, clauses=None):
+    """The units that a contract names in these clauses, or in all."""
+    lines = [line for name, lines in contract.clauses.items() if clauses is None or name in clauses for line in lines]
+    return used_in(contract.scope, "\n".join(lines))[0]
 
 
 def is_example(name):
@@ -224,13 +143,19 @@ def is_example(name):
     return name.endswith("Examples") or name.endswith("Sample") or "worked" in name.split(".")
 
 
+def is_for_proofs(unit):
+    """Whether a definition is in a file that only proofs need."""
+    return unit.kind == "definition" and file_of(unit.crate, unit.file).is_for_proofs
+
+
 def believed():
     """All that the contracts of public functions, laws included, rest on."""
-    return all_below(set().union(*(contract.units for crate in crates() for contract in contracts_of(crate) if contract.is_public)))
+    public = (contract for crate in crates() for contract in contracts_of(crate) if contract.is_public)
+    return reached_from(frozenset().union(*map(units_of_contract, public)))[0]
 
 
-# What the headline of PROVED.md says of a built program.
-HEADLINE = ["bc_build.Built.IsBuilt", "bc_build.Runs.RunsAsMeant", "bc_build.Least.AreLeast", "bc_build.Certified.IsCertified"]
+# What the headline of PROVED.md says of a built program: these clauses of the contract of `build`.
+HEADLINE = ["bc_build::build:built", "bc_build::build:runs", "bc_build::build:least", "bc_build::build:certified"]
 
 # The statements of the table in docs/PROVED.md: the headline, its parts, and the public calls.
 STATEMENTS = [
@@ -239,46 +164,65 @@ STATEMENTS = [
     ("the code has the fewest words", HEADLINE[2:3]),
     ("the certificate", HEADLINE[3:]),
     *((f"`{name}`", [name]) for name in (
-        "bc_build::build", "bc_interpret_sources::interpret", "bc_interpret::interpret", "bc_lex::lex", "bc_parse::parse", "bc_scope::resolve",
-        "bc_rules::is_derivation", "bc_select::select", "bc_gen::generate", "bc_cert::check", "bc_cert_against::check_against", "bc_link::link",
-        "bc_run::run_text", "bc_text::read_all", "bc_convert::convert")),
+        "bc_build::build", "bc_interpret_sources::interpret", "bc_interpret::interpret", "bc_lex::lex", "bc_parse::parse",
+        "bc_scope::resolve", "bc_rules::is_derivation", "bc_select::select", "bc_gen::generate", "bc_cert::check",
+        "bc_cert_against::check_against", "bc_link::link", "bc_run::run_text", "bc_text::read_all", "bc_convert::convert")),
 ]
 
 
 def units_of(name):
-    """The units that a name means: CRATE::FUNCTION, CRATE.FILE or CRATE.FILE.NAME."""
+    """The units that a name means: CRATE::FUNCTION, CRATE::FUNCTION:CLAUSE, CRATE.FILE or CRATE.FILE.NAME."""
     if "::" in name:
-        crate, function = name.split("::")[0], name.split("::")[-1]
+        path, clause = re.fullmatch(r"(.*?)(?:(?<!:):(\w+))?", name).groups()
+        crate, function = path.split("::")[0], path.split("::")[-1]
         found = [contract for contract in contracts_of(crate) if contract.name == function and contract.is_public]
-        if not found:
-            raise NoDefinition(f"no public function of {crate} with a contract is named {function}")
-        return set.union(*(contract.units for contract in found))
+        if not found or clause and not any(clause in contract.clauses for contract in found):
+            raise Unreadable(f"no public function of {crate} with a contract is named {name.partition('::')[2]}")
+        return frozenset().union(*(units_of_contract(contract, [clause] if clause else None) for contract in found))
     crate, _, rest = name.partition(".")
     if file_of(crate, rest):
         return set(file_of(crate, rest).units)
     file, _, last = rest.rpartition(".")
     within = file_of(crate, file) if file else None
-    if within is None or last not in within.by_name:
-        raise NoDefinition(f"there is no definition {name}; write CRATE::FUNCTION, CRATE.FILE or CRATE.FILE.NAME")
-    return {within.by_name[last]}
+    if within is None or last not in within.scope.own:
+        forms = "CRATE::FUNCTION, CRATE::FUNCTION:CLAUSE, CRATE.FILE or CRATE.FILE.NAME"
+        raise Unreadable(f"there is no definition {name}; write {forms}")
+    return within.scope.own[last]
 
 
-def lines_of(names):
-    """How many lines of definitions these names rest on, and how many more of files for proofs."""
-    reached = all_below(set.union(*map(units_of, names)))
-    for_proofs = sum(len(unit) for unit in reached if file_of(unit.crate, unit.file).is_for_proofs)
-    return sum(map(len, reached)) - for_proofs, for_proofs
+def reached_by(names):
+    """What these names rest on, and the names of the standard library among it."""
+    return reached_from(frozenset().union(*map(units_of, names)))
+
+
+def lines_of(units):
+    """How many lines of definitions these are, and how many more in files for proofs."""
+    counted = [(len(unit), is_for_proofs(unit)) for unit in units if unit.kind == "definition"]
+    return sum(count for count, apart in counted if not apart), sum(count for count, apart in counted if apart)
 
 
 def headline():
-    """The same of the headline."""
-    return lines_of(HEADLINE)
+    """What the headline rests on, each by what docs/PROVED.md calls it."""
+    units, library = reached_by(HEADLINE)
+    of_kind = {kind: [len(unit) for unit in units if unit.kind == kind] for kind in ("type", "view")}
+    lines, for_proofs = lines_of(units)
+    return {
+        "lines of definitions": lines,
+        "lines in files for proofs": for_proofs,
+        "types of the code": len(of_kind["type"]),
+        "lines of these types": sum(of_kind["type"]),
+        "views of these types": len(of_kind["view"]),
+        "lines of these views": sum(of_kind["view"]),
+        "names of the standard library": len(library),
+    }
 
 
-def table():
-    """The table of docs/PROVED.md."""
+def tables():
+    """The tables of docs/PROVED.md: what each statement rests on, and what beside it the headline reaches."""
     rows = ["| Statement | Lines of definitions | Lines in files `For proofs:` |", "|---|---|---|"]
     for title, names in STATEMENTS:
-        lines, for_proofs = lines_of(names)
+        lines, for_proofs = lines_of(reached_by(names)[0])
         rows.append(f"| {title} | {lines:,} | {for_proofs:,} |")
-    return "\n".join(rows) + "\n"
+    more = ["| What the headline reaches beside definitions | Number |", "|---|---|"]
+    more += [f"| {title} | {count:,} |" for title, count in list(headline().items())[2:]]
+    return ["\n".join(rows) + "\n", "\n".join(more) + "\n"]
