@@ -259,7 +259,7 @@ fn convert_with<F: Files, O: Write + Drop>(
     let texts = texts_of(rt, alloc, order)?;
     let converted = converted_in_rounds(rt, alloc, order, library, texts.as_slice())?;
     let jobs = jobs_of(alloc, order, texts, converted)?;
-    spare(rt, alloc, order, jobs.as_slice())?;
+    spare(rt, alloc, &*order, jobs.as_slice())?;
     make_folder(rt, alloc, order)?;
     for job in &jobs {
         write_job(rt, alloc, job, is_terminal, out)?;
