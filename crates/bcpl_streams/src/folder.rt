@@ -58,17 +58,17 @@ fn is_plain(name: &[u8]) -> bool {
 
 /// A folder, and the files in it that the run opened.
 #[derive(Drop)]
-pub struct Folder<'r, F: Files> {
+pub struct Folder<'r, 'p, F: Files> {
     rt: &'r F,
     alloc: Global,
-    path: &'r str,
+    path: &'p str,
     inputs: Vec<Opened<BufReader<F::File>>>,
     outputs: Vec<Opened<BufWriter<F::File>>>,
 }
 
-impl<'r, F: Files> Folder<'r, F> {
+impl<'r, 'p, F: Files> Folder<'r, 'p, F> {
     /// The folder with this path.
-    pub fn new(rt: &'r F, alloc: Global, path: &'r str) -> Folder<'r, F> {
+    pub fn new(rt: &'r F, alloc: Global, path: &'p str) -> Folder<'r, 'p, F> {
         Folder {
             rt,
             alloc,

@@ -12,22 +12,39 @@ use std::rt::Files;
 /// Some streams, and the files of a folder, which are opened when they are found.
 ///
 /// What these streams hold is not known before the run: in contracts their content is never known.
-#[derive(Drop)]
-pub struct FoundStreams<'r, F: Files, S> {
+pub struct FoundStreams<'r, 'p, F: Files, S> {
     given: S,
     /// The numbers of the first input and of the first output in the folder.
     first: (usize, usize),
     /// There is always one, except while a stream is found.
-    folder: Cell<Option<Folder<'r, F>>>,
+    folder: Cell<Option<Folder<'r, 'p, F>>>,
     /// The places in the folder of the selected input and output; `None` if they are given streams.
     input: Option<usize>,
     output: Option<usize>,
     failures: u64,
 }
 
-impl<'r, F: Files, S> FoundStreams<'r, F, S> {
+impl<F: Files, S: Drop> Drop for FoundStreams<'_, '_, F, S> {
+    fn drop(self) {
+        let FoundStreams {
+            given: _,
+            first: _,
+            folder,
+            input: _,
+            output: _,
+            failures: _,
+        } = self;
+        let _folder = folder.into_inner();
+    }
+}
+
+impl<'r, 'p, F: Files, S> FoundStreams<'r, 'p, F, S> {
     /// These streams, which are so many inputs and outputs, and those that are found in the folder.
-    pub fn new(given: S, counts: (usize, usize), folder: Folder<'r, F>) -> FoundStreams<'r, F, S> {
+    pub fn new(
+        given: S,
+        counts: (usize, usize),
+        folder: Folder<'r, 'p, F>,
+    ) -> FoundStreams<'r, 'p, F, S> {
         FoundStreams {
             given,
             first: (counts.0.saturating_add(1), counts.1.saturating_add(1)),
@@ -68,7 +85,7 @@ impl<'r, F: Files, S> FoundStreams<'r, F, S> {
     }
 }
 
-impl<'r, F: Files, S: ClosableStreams> ClosableStreams for FoundStreams<'r, F, S> {
+impl<'r, 'p, F: Files, S: ClosableStreams> ClosableStreams for FoundStreams<'r, 'p, F, S> {
     fn close(&mut self) -> Result<(), DeviceFault> {
         let given = self.given.close();
         if let Some(folder) = self.folder.get_mut() {
@@ -82,7 +99,7 @@ impl<'r, F: Files, S: ClosableStreams> ClosableStreams for FoundStreams<'r, F, S
     }
 }
 
-impl<'r, F: Files, S: Streams> Streams for FoundStreams<'r, F, S> {
+impl<'r, 'p, F: Files, S: Streams> Streams for FoundStreams<'r, 'p, F, S> {
     ghost content = { λ s. S.content s.given };
 
     ghost known = { λ _. ⊥ };
